@@ -1,0 +1,66 @@
+-- `a32::dp_misc` meets its contract. Assumes nothing.
+use borrow.Author.Needs.{needs}
+use borrow.Author.Tests.{ne-eqb}
+use Rattle.a32.specs.Decode.{dpMiscOf}
+use Rattle.a32.proofs.dp_misc.Statement.{statement}
+use Rattle.a32.proofs.dp_misc.Tie as tie
+
+bit-requires : tie.Need-bit-requires
+bit-requires c κs = search needs
+
+bit-requires-2 : tie.Need-bit-requires-2
+bit-requires-2 c κs = search needs
+
+plain-requires : tie.Need-plain-requires
+plain-requires c κs = search needs
+
+plain-requires-2 : tie.Need-plain-requires-2
+plain-requires-2 c κs = search needs
+
+extra-requires : tie.Need-extra-requires
+extra-requires c κs = search needs
+
+returns : tie.Need-returns
+unfolding dpMiscOf
+returns c =
+    simp (
+      c .plain .ensures,
+      c .before .if1 .taken,
+      ← (c .before .before .bit2 .ensures),
+      ← (c .before .before .before .bit .ensures),
+    )
+
+returns-2 : tie.Need-returns-2
+unfolding dpMiscOf
+returns-2 c =
+    simp (
+      c .plain2 .ensures,
+      c .before .if2 .taken,
+      ne-eqb _ _ (c .before .before .if1 .left),
+      ← (c .before .before .before .bit2 .ensures),
+      ← (c .before .before .before .before .bit .ensures),
+    )
+
+returns-3 : tie.Need-returns-3
+unfolding dpMiscOf
+returns-3 c =
+    simp (
+      c .extra .ensures,
+      ne-eqb _ _ (c .before .if2 .left),
+      ne-eqb _ _ (c .before .before .if1 .left),
+      ← (c .before .before .before .bit2 .ensures),
+      ← (c .before .before .before .before .bit .ensures),
+    )
+
+pub dp-misc-spec : {M : Type 1} → statement M
+dp-misc-spec =
+    tie.close
+    (tie.spec
+    bit-requires
+    bit-requires-2
+    plain-requires
+    plain-requires-2
+    extra-requires
+    returns
+    returns-2
+    returns-3)

@@ -1,0 +1,146 @@
+-- `a32::group` meets its contract. Assumes nothing.
+use borrow.Author.Needs.{needs}
+use borrow.Author.Tests.{ne-eqb}
+use Rattle.a32.specs.Decode.{groupOf}
+use Rattle.a32.proofs.group.Statement.{statement}
+use Rattle.a32.proofs.group.Tie as tie
+
+bits-requires : tie.Need-bits-requires
+bits-requires c κs = search needs
+
+bit-requires : tie.Need-bit-requires
+bit-requires c κs = search needs
+
+dp-misc-requires : tie.Need-dp-misc-requires
+dp-misc-requires c κs = search needs
+
+dp-imm-requires : tie.Need-dp-imm-requires
+dp-imm-requires c κs = search needs
+
+ldst-requires : tie.Need-ldst-requires
+ldst-requires c κs = search needs
+
+ldst-requires-2 : tie.Need-ldst-requires-2
+ldst-requires-2 c κs = search needs
+
+media-requires : tie.Need-media-requires
+media-requires c κs = search needs
+
+block-requires : tie.Need-block-requires
+block-requires c κs = search needs
+
+branch-requires : tie.Need-branch-requires
+branch-requires c κs = search needs
+
+refuse-requires : tie.Need-refuse-requires
+refuse-requires c κs = search needs
+
+returns : tie.Need-returns
+unfolding groupOf
+returns c =
+    simp (
+      c .dp-misc .ensures,
+      c .before .match .keys1,
+      ← (c .before .before .bit .ensures),
+      ← (c .before .before .before .bits .ensures),
+    )
+
+returns-2 : tie.Need-returns-2
+unfolding groupOf
+returns-2 c =
+    simp (
+      c .dp-imm .ensures,
+      c .before .match .keys2,
+      ← (c .before .before .bit .ensures),
+      ← (c .before .before .before .bits .ensures),
+    )
+
+returns-3 : tie.Need-returns-3
+unfolding groupOf
+returns-3 c =
+    simp (
+      c .ldst .ensures,
+      c .before .match .keys3,
+      ← (c .before .before .bit .ensures),
+      ← (c .before .before .before .bits .ensures),
+    )
+
+returns-4 : tie.Need-returns-4
+unfolding groupOf
+returns-4 c =
+    simp (
+      c .ldst2 .ensures,
+      c .before .if1 .taken,
+      c .before .before .match .keys4,
+      ← (c .before .before .before .bit .ensures),
+      ← (c .before .before .before .before .bits .ensures),
+    )
+
+returns-5 : tie.Need-returns-5
+unfolding groupOf
+returns-5 c =
+    simp (
+      c .media .ensures,
+      ne-eqb _ _ (c .before .if1 .left),
+      c .before .before .match .keys4,
+      ← (c .before .before .before .bit .ensures),
+      ← (c .before .before .before .before .bits .ensures),
+    )
+
+returns-6 : tie.Need-returns-6
+unfolding groupOf
+returns-6 c =
+    simp (
+      c .block .ensures,
+      c .before .match .keys5,
+      ← (c .before .before .bit .ensures),
+      ← (c .before .before .before .bits .ensures),
+    )
+
+returns-7 : tie.Need-returns-7
+unfolding groupOf
+returns-7 c =
+    simp (
+      c .branch .ensures,
+      c .before .match .keys6,
+      ← (c .before .before .bit .ensures),
+      ← (c .before .before .before .bits .ensures),
+    )
+
+returns-8 : tie.Need-returns-8
+unfolding groupOf
+returns-8 c =
+    simp (
+      c .refuse .ensures,
+      ne-eqb _ _ (c .before .match .rest .1),
+      ne-eqb _ _ (c .before .match .rest .0 .1),
+      ne-eqb _ _ (c .before .match .rest .0 .0 .1),
+      ne-eqb _ _ (c .before .match .rest .0 .0 .0 .1),
+      ne-eqb _ _ (c .before .match .rest .0 .0 .0 .0 .1),
+      ne-eqb _ _ (c .before .match .rest .0 .0 .0 .0 .0 .1),
+      ← (c .before .before .bit .ensures),
+      ← (c .before .before .before .bits .ensures),
+    )
+
+pub group-spec : {M : Type 1} → statement M
+group-spec =
+    tie.close
+    (tie.spec
+    bits-requires
+    bit-requires
+    dp-misc-requires
+    dp-imm-requires
+    ldst-requires
+    ldst-requires-2
+    media-requires
+    block-requires
+    branch-requires
+    refuse-requires
+    returns
+    returns-2
+    returns-3
+    returns-4
+    returns-5
+    returns-6
+    returns-7
+    returns-8)

@@ -1,0 +1,134 @@
+//! A32 decode.
+//!
+//! The top-level split follows the architecture reference manual's A5 decode tree on bits 27:25, and each group below is
+//! one of its tables. Condition 15 is not a condition at all but a second instruction space, so it leaves first.
+use arm::NO_ROW;
+use dp::dp_imm::dp_imm;
+use dp::dp_reg::dp_reg;
+use insn::Decoded;
+use insn::refuse;
+use ldst::extra_ldst::extra_ldst;
+use ldst::ldst::ldst;
+use media::media;
+use misc::misc;
+use multiply::multiply;
+use multiply::sync;
+use transfer::block::block;
+use transfer::branch::branch;
+use transfer::unconditional::unconditional;
+use word::bit;
+use word::bits;
+use word::word_at;
+ghost use mathlib.Core.Path.{_≡_};
+ghost use Rattle.a32.specs.Decode.{decodeOf, decodeBytesOf, groupOf, dpMiscOf, plainOf, extraOf, controlOf};
+
+/// The refusal of fewer bytes than a word has.
+pub const SHORT: u8 = 1;
+
+/// The refusal of the coprocessors' space, the floating point unit's among it.
+pub const COPROCESSOR: u8 = 2;
+
+/// Decode one A32 instruction from its bytes.
+pub fn decode_bytes(bytes: &[u8], addr: u64) -> Decoded
+    ensures { λ r. ⌜ r ≡ decodeBytesOf (now (bytes .entry)) addr ⌝ }
+{
+    if bytes.len() < 4 {
+        refuse(SHORT)
+    } else {
+        decode(word_at(bytes, 0), addr)
+    }
+}
+
+/// Decode one A32 word.
+pub fn decode(w: u32, addr: u64) -> Decoded
+    ensures { λ r. ⌜ r ≡ decodeOf w addr ⌝ }
+{
+    let cond = bits(w, 31, 28);
+    let coprocessor = bits(w, 27, 26);
+    if cond == 15 {
+        return unconditional(w, addr);
+    }
+    if coprocessor == 0b11 {
+        return refuse(COPROCESSOR);
+    }
+    group(w, addr)
+}
+
+fn group(w: u32, addr: u64) -> Decoded
+    ensures { λ r. ⌜ r ≡ groupOf w addr ⌝ }
+{
+    let op = bits(w, 27, 25);
+    let by = bit(w, 4);
+    match op {
+        0b000 => dp_misc(w, addr),
+        0b001 => dp_imm(w, addr),
+        0b010 => ldst(w, addr),
+        0b011 => {
+            if by == 0 {
+                ldst(w, addr)
+            } else {
+                media(w, addr)
+            }
+        }
+        0b100 => block(w, addr),
+        0b101 => branch(w, addr),
+        _ => refuse(NO_ROW),
+    }
+}
+
+/// Table A5-2: the register data-processing space shares bits 27:25 with the multiplies, the halfword loads and stores,
+/// and the branch-and-exchange corner, and only bits 7:4 tell them apart.
+fn dp_misc(w: u32, addr: u64) -> Decoded
+    ensures { λ r. ⌜ r ≡ dpMiscOf w addr ⌝ }
+{
+    let by = bit(w, 4);
+    let high = bit(w, 7);
+    if by == 0 {
+        plain(w, addr)
+    } else if high == 0 {
+        plain(w, addr)
+    } else {
+        extra(w, addr)
+    }
+}
+
+/// Data processing, or the control words in its midst; those with bit 7 set are halfword multiplies.
+fn plain(w: u32, addr: u64) -> Decoded
+    ensures { λ r. ⌜ r ≡ plainOf w addr ⌝ }
+{
+    let high = bit(w, 7);
+    if is_control(w) {
+        if high == 0 {
+            misc(w, addr)
+        } else {
+            refuse(NO_ROW)
+        }
+    } else {
+        dp_reg(w, addr)
+    }
+}
+
+/// A compare that would set no flags.
+fn is_control(w: u32) -> bool
+    ensures { λ r. ⌜ r ≡ controlOf w ⌝ }
+{
+    let op = bits(w, 24, 23);
+    let s = bit(w, 20);
+    if op == 0b10 { s == 0 } else { false }
+}
+
+fn extra(w: u32, addr: u64) -> Decoded
+    ensures { λ r. ⌜ r ≡ extraOf w addr ⌝ }
+{
+    let op = bits(w, 6, 5);
+    let exclusive = bit(w, 24);
+    if op == 0b00 {
+        if exclusive == 0 {
+            multiply(w, addr)
+        } else {
+            sync(w, addr)
+        }
+    } else {
+        extra_ldst(w, addr)
+    }
+}

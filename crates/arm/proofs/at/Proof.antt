@@ -1,0 +1,20 @@
+-- `arm::at` meets its contract. Assumes nothing.
+use borrow.Author.Needs.{needs}
+use Rattle.arm.proofs.at.Statement.{statement}
+use Rattle.arm.proofs.at.Tie as tie
+
+cond-of-requires : tie.Need-cond-of-requires
+cond-of-requires c κs = search needs
+
+new-requires : tie.Need-new-requires
+new-requires c κs = search needs
+
+returns : tie.Need-returns
+returns c =
+    simp (
+      c .new .ensures,
+      c .before .cond-of .ensures,
+    )
+
+pub at-spec : {M : Type 1} → statement M
+at-spec = tie.close (tie.spec cond-of-requires new-requires returns)

@@ -1,0 +1,25 @@
+-- `arm::by_s` meets its contract. Assumes nothing.
+use borrow.Author.Needs.{needs}
+use borrow.Author.Tests.{ne-eqb}
+use Rattle.arm.proofs.by_s.Statement.{statement}
+use Rattle.arm.proofs.by_s.Tie as tie
+
+bit-requires : tie.Need-bit-requires
+bit-requires c κs = search needs
+
+returns : tie.Need-returns
+returns c =
+    simp (
+      c .if1 .taken,
+      ← (c .before .bit .ensures),
+    )
+
+returns-2 : tie.Need-returns-2
+returns-2 c =
+    simp (
+      ne-eqb _ _ (c .if1 .left),
+      ← (c .before .bit .ensures),
+    )
+
+pub by-s-spec : {M : Type 1} → statement M
+by-s-spec = tie.close (tie.spec bit-requires returns returns-2)

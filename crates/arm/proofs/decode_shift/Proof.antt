@@ -1,0 +1,20 @@
+-- `arm::decode_shift` meets its contract. Assumes nothing.
+use borrow.Author.Needs.{needs}
+use Rattle.arm.proofs.decode_shift.Statement.{statement}
+use Rattle.arm.proofs.decode_shift.Tie as tie
+
+shift-kind-requires : tie.Need-shift-kind-requires
+shift-kind-requires c κs = search needs
+
+shift-amount-requires : tie.Need-shift-amount-requires
+shift-amount-requires c κs = search needs
+
+returns : tie.Need-returns
+returns c =
+    simp (
+      c .shift-amount .ensures,
+      c .before .shift-kind .ensures,
+    )
+
+pub decode-shift-spec : {M : Type 1} → statement M
+decode-shift-spec = tie.close (tie.spec shift-kind-requires shift-amount-requires returns)

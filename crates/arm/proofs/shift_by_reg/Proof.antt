@@ -1,0 +1,24 @@
+-- `arm::shift_by_reg` meets its contract. Assumes nothing.
+use borrow.Author.Needs.{needs}
+use Rattle.arm.proofs.shift_by_reg.Statement.{statement}
+use Rattle.arm.proofs.shift_by_reg.Tie as tie
+
+bits-requires : tie.Need-bits-requires
+bits-requires c κs = search needs
+
+shift-kind-requires : tie.Need-shift-kind-requires
+shift-kind-requires c κs = search needs
+
+reg-at-requires : tie.Need-reg-at-requires
+reg-at-requires c κs = search needs
+
+returns : tie.Need-returns
+returns c =
+    simp (
+      c .reg-at .ensures,
+      c .before .shift-kind .ensures,
+      ← (c .before .before .bits .ensures),
+    )
+
+pub shift-by-reg-spec : {M : Type 1} → statement M
+shift-by-reg-spec = tie.close (tie.spec bits-requires shift-kind-requires reg-at-requires returns)

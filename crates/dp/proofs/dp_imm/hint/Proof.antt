@@ -1,0 +1,71 @@
+-- `dp::dp_imm::hint` meets its contract. Assumes nothing.
+use borrow.Author.Needs.{needs}
+use borrow.Author.Tests.{ne-eqb}
+use Rattle.dp.proofs.dp_imm.hint.Statement.{statement}
+use Rattle.dp.proofs.dp_imm.hint.Tie as tie
+
+bits-requires : tie.Need-bits-requires
+bits-requires c κs = search needs
+
+hint-named-requires : tie.Need-hint-named-requires
+hint-named-requires c κs = search needs
+
+hint-named-requires-2 : tie.Need-hint-named-requires-2
+hint-named-requires-2 c κs = search needs
+
+hint-named-requires-3 : tie.Need-hint-named-requires-3
+hint-named-requires-3 c κs = search needs
+
+hint-named-requires-4 : tie.Need-hint-named-requires-4
+hint-named-requires-4 c κs = search needs
+
+hint-named-requires-5 : tie.Need-hint-named-requires-5
+hint-named-requires-5 c κs = search needs
+
+refuse-requires : tie.Need-refuse-requires
+refuse-requires c κs = search needs
+
+returns : tie.Need-returns
+returns c = simp (c .hint-named .ensures, c .before .match .keys1, ← (c .before .before .bits .ensures))
+
+returns-2 : tie.Need-returns-2
+returns-2 c = simp (c .hint-named2 .ensures, c .before .match .keys2, ← (c .before .before .bits .ensures))
+
+returns-3 : tie.Need-returns-3
+returns-3 c = simp (c .hint-named3 .ensures, c .before .match .keys3, ← (c .before .before .bits .ensures))
+
+returns-4 : tie.Need-returns-4
+returns-4 c = simp (c .hint-named4 .ensures, c .before .match .keys4, ← (c .before .before .bits .ensures))
+
+returns-5 : tie.Need-returns-5
+returns-5 c = simp (c .hint-named5 .ensures, c .before .match .keys5, ← (c .before .before .bits .ensures))
+
+returns-6 : tie.Need-returns-6
+returns-6 c =
+    simp (
+      c .refuse .ensures,
+      ne-eqb _ _ (c .before .match .rest .1),
+      ne-eqb _ _ (c .before .match .rest .0 .1),
+      ne-eqb _ _ (c .before .match .rest .0 .0 .1),
+      ne-eqb _ _ (c .before .match .rest .0 .0 .0 .1),
+      ne-eqb _ _ (c .before .match .rest .0 .0 .0 .0 .1),
+      ← (c .before .before .bits .ensures),
+    )
+
+pub hint-spec : {M : Type 1} → statement M
+hint-spec =
+    tie.close
+    (tie.spec
+    bits-requires
+    hint-named-requires
+    hint-named-requires-2
+    hint-named-requires-3
+    hint-named-requires-4
+    hint-named-requires-5
+    refuse-requires
+    returns
+    returns-2
+    returns-3
+    returns-4
+    returns-5
+    returns-6)

@@ -1,0 +1,33 @@
+-- `dp::dp_imm::msr` meets its contract. Assumes nothing.
+use borrow.Author.Needs.{needs}
+use Rattle.word.specs.Field.{field}
+use Rattle.word.specs.Choice.{by-test}
+use Rattle.imm.specs.Imm.{leastOf}
+use Rattle.dp.proofs.dp_imm.msr.Statement.{statement}
+use Rattle.dp.proofs.dp_imm.msr.Tie as tie
+
+at-requires : tie.Need-at-requires
+at-requires c κs = search needs
+
+status-mask-requires : tie.Need-status-mask-requires
+status-mask-requires c κs = search needs
+
+with-requires : tie.Need-with-requires
+with-requires c κs = search needs
+
+value-requires : tie.Need-value-requires
+value-requires c κs = search needs
+
+returns : tie.Need-returns
+returns c =
+    simp (
+      c .value .ensures,
+      c .before .with .ensures,
+      c .before .before .status-mask .ensures,
+      c .before .before .before .at .ensures,
+    )
+    (by-test (leastOf (field (c .before .before .before .before .args .w) 0 12)) (λ e. simp e) (λ e. simp e))
+
+pub msr-spec : {M : Type 1} → statement M
+msr-spec =
+    tie.close (tie.spec at-requires status-mask-requires with-requires value-requires returns)

@@ -1,0 +1,3 @@
+pub mod Names
+pub mod DpReg
+pub mod DpImm

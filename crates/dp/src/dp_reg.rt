@@ -1,0 +1,118 @@
+//! Data processing with a register source.
+use crate::names::dp_name;
+use crate::names::shift_name;
+use arm::RD;
+use arm::RM;
+use arm::RN;
+use arm::RS;
+use arm::at;
+use arm::by_s;
+use arm::count;
+use arm::decode_shift;
+use arm::is_plain;
+use arm::is_rrx;
+use arm::op_at;
+use arm::pc_write;
+use arm::shift_by_reg;
+use arm::shifted;
+use arm::three;
+use arm::two;
+use insn::Decoded;
+use insn::Flow;
+use insn::Insn;
+use insn::name;
+use word::bit;
+use word::bits;
+ghost use mathlib.Core.Path.{_≡_};
+ghost use Prim.Native.Nat.{_<_};
+ghost use Rattle.dp.specs.DpReg.{dpRegOf, movOf, movCountOf, movFlow, sourced};
+
+/// Data processing with a register source, shifted by an amount or, where bit 4 is set, by a register.
+pub fn dp_reg(w: u32, addr: u64) -> Decoded
+    ensures { λ r. ⌜ r ≡ dpRegOf w addr ⌝ }
+{
+    let compare = bits(w, 24, 23);
+    let op = bits(w, 24, 21);
+    if compare == 0b10 {
+        return source(
+            at(w, addr, dp_name(w), pc_write(w)).with(0, op_at(w, RN)),
+            1,
+            w,
+        );
+    }
+    match op {
+        // A `mov` whose source is shifted is spelled as the shift.
+        0b1101 => mov(w, addr),
+        0b1111 => source(
+            at(w, addr, dp_name(w), pc_write(w)).with(0, op_at(w, RD)),
+            1,
+            w,
+        ),
+        _ => source(
+            at(w, addr, dp_name(w), pc_write(w)).with(0, op_at(w, RD))
+                .with(1, op_at(w, RN)),
+            2,
+            w,
+        ),
+    }
+}
+
+/// The source of an operation, from operand place `n` on.
+fn source(i: Insn, n: usize, w: u32) -> Decoded
+    requires { ⌜ n < 3 ⌝ }
+    ensures { λ r. ⌜ r ≡ sourced i n w ⌝ }
+{
+    let by = bit(w, 4);
+    if by == 0 {
+        i.with(n, shifted(w)).accept()
+    } else {
+        i.with(n, op_at(w, RM))
+            .with(n + 1, shift_by_reg(w))
+            .accept()
+    }
+}
+
+fn mov(w: u32, addr: u64) -> Decoded
+    ensures { λ r. ⌜ r ≡ movOf w addr ⌝ }
+{
+    let by = bit(w, 4);
+    if by == 0 {
+        if is_plain(w) {
+            return two(w, addr, by_s(w, name::MOV, name::MOVS), mov_flow(w), RD, RM);
+        }
+        if is_rrx(w) {
+            return two(w, addr, by_s(w, name::RRX, name::RRXS), pc_write(w), RD, RM);
+        }
+        mov_count(w, addr)
+    } else {
+        three(w, addr, shift_name(w), pc_write(w), RD, RM, RS)
+    }
+}
+
+/// Moving the link register back into the pc is a return.
+fn mov_flow(w: u32) -> Flow
+    ensures { λ r. ⌜ r ≡ movFlow w ⌝ }
+{
+    let rd = bits(w, 15, 12);
+    let rm = bits(w, 3, 0);
+    if rd == 15 {
+        if rm == 14 {
+            Flow::Return
+        } else {
+            Flow::IndirectBranch
+        }
+    } else {
+        Flow::Next
+    }
+}
+
+fn mov_count(w: u32, addr: u64) -> Decoded
+    ensures { λ r. ⌜ r ≡ movCountOf w addr ⌝ }
+{
+    let shift = decode_shift(bits(w, 6, 5), bits(w, 11, 7));
+    let n = shift.amount as u32;
+    at(w, addr, shift_name(w), pc_write(w)).with(0, op_at(w, RD))
+        .with(1, op_at(w, RM))
+        .with(2, count(n))
+        .accept()
+}

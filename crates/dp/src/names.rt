@@ -1,0 +1,66 @@
+//! The names of the data processing operations.
+use insn::name;
+use word::bit;
+use word::bits;
+ghost use mathlib.Core.Path.{_≡_};
+ghost use Rattle.dp.specs.Names.{dpName, shiftName};
+
+const DP: [u16; 16] = [
+    name::AND,
+    name::EOR,
+    name::SUB,
+    name::RSB,
+    name::ADD,
+    name::ADC,
+    name::SBC,
+    name::RSC,
+    name::TST,
+    name::TEQ,
+    name::CMP,
+    name::CMN,
+    name::ORR,
+    name::MOV,
+    name::BIC,
+    name::MVN,
+];
+
+const DP_S: [u16; 16] = [
+    name::ANDS,
+    name::EORS,
+    name::SUBS,
+    name::RSBS,
+    name::ADDS,
+    name::ADCS,
+    name::SBCS,
+    name::RSCS,
+    name::TST,
+    name::TEQ,
+    name::CMP,
+    name::CMN,
+    name::ORRS,
+    name::MOVS,
+    name::BICS,
+    name::MVNS,
+];
+
+const SHIFTS: [u16; 4] = [name::LSL, name::LSR, name::ASR, name::ROR];
+
+const SHIFTS_S: [u16; 4] = [name::LSLS, name::LSRS, name::ASRS, name::RORS];
+
+/// The operation of bits 24:21, with `s` where bit 20 is set.
+pub fn dp_name(w: u32) -> u16
+    ensures { λ r. ⌜ r ≡ dpName w ⌝ }
+{
+    let op = bits(w, 24, 21) as usize;
+    let s = bit(w, 20);
+    if s == 0 { DP[op] } else { DP_S[op] }
+}
+
+/// The shift of bits 6:5, with `s` where bit 20 is set.
+pub fn shift_name(w: u32) -> u16
+    ensures { λ r. ⌜ r ≡ shiftName w ⌝ }
+{
+    let ty = bits(w, 6, 5) as usize;
+    let s = bit(w, 20);
+    if s == 0 { SHIFTS[ty] } else { SHIFTS_S[ty] }
+}

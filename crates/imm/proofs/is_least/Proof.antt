@@ -1,0 +1,86 @@
+-- `imm::is_least` meets its contract. Assumes nothing.
+use borrow.Author.Needs.{needs}
+use borrow.Author.Tests.{ne-eqb}
+use Rattle.imm.specs.Closed.{least-is}
+use Rattle.imm.proofs.is_least.Statement.{statement}
+use Rattle.imm.proofs.is_least.Tie as tie
+
+bits-requires : tie.Need-bits-requires
+bits-requires c κs = search needs
+
+bits-requires-2 : tie.Need-bits-requires-2
+bits-requires-2 c κs = search needs
+
+is-turned-requires : tie.Need-is-turned-requires
+is-turned-requires c κs = search needs
+
+is-turned-requires-2 : tie.Need-is-turned-requires-2
+is-turned-requires-2 c κs = search needs
+
+is-turned-requires-3 : tie.Need-is-turned-requires-3
+is-turned-requires-3 c κs = search needs
+
+is-turned-requires-4 : tie.Need-is-turned-requires-4
+is-turned-requires-4 c κs = search needs
+
+returns : tie.Need-returns
+returns c = simp (← (least-is (c .before .before .before .args .imm12) (c .before .before .before .pre)), c .match .keys1, ← (c .before .bits2 .ensures), ← (c .before .before .bits .ensures))
+
+returns-2 : tie.Need-returns-2
+returns-2 c =
+    simp (
+      ← (least-is (c .before .before .before .before .args .imm12) (c .before .before .before .before .pre)),
+      c .is-turned .ensures,
+      c .before .match .keys2,
+      ← (c .before .before .bits2 .ensures),
+      ← (c .before .before .before .bits .ensures),
+    )
+
+returns-3 : tie.Need-returns-3
+returns-3 c =
+    simp (
+      ← (least-is (c .before .before .before .before .args .imm12) (c .before .before .before .before .pre)),
+      c .is-turned2 .ensures,
+      c .before .match .keys3,
+      ← (c .before .before .bits2 .ensures),
+      ← (c .before .before .before .bits .ensures),
+    )
+
+returns-4 : tie.Need-returns-4
+returns-4 c =
+    simp (
+      ← (least-is (c .before .before .before .before .args .imm12) (c .before .before .before .before .pre)),
+      c .is-turned3 .ensures,
+      c .before .match .keys4,
+      ← (c .before .before .bits2 .ensures),
+      ← (c .before .before .before .bits .ensures),
+    )
+
+returns-5 : tie.Need-returns-5
+returns-5 c =
+    simp (
+      ← (least-is (c .before .before .before .before .args .imm12) (c .before .before .before .before .pre)),
+      c .is-turned4 .ensures,
+      ne-eqb _ _ (c .before .match .rest .1),
+      ne-eqb _ _ (c .before .match .rest .0 .1),
+      ne-eqb _ _ (c .before .match .rest .0 .0 .1),
+      ne-eqb _ _ (c .before .match .rest .0 .0 .0 .1),
+      ← (c .before .before .bits2 .ensures),
+      ← (c .before .before .before .bits .ensures),
+    )
+
+pub is-least-spec : {M : Type 1} → statement M
+is-least-spec =
+    tie.close
+    (tie.spec
+    bits-requires
+    bits-requires-2
+    is-turned-requires
+    is-turned-requires-2
+    is-turned-requires-3
+    is-turned-requires-4
+    returns
+    returns-2
+    returns-3
+    returns-4
+    returns-5)

@@ -1,0 +1,3 @@
+pub mod Imm
+pub mod Least
+pub mod Closed

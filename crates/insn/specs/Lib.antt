@@ -1,0 +1,4 @@
+pub mod Answer
+pub mod Memory
+pub mod Name
+pub mod Numbers

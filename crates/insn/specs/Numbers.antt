@@ -1,0 +1,49 @@
+-- The numbers that stand for the cases of the value's enums, and their values, in the order of 01's paragraphs.
+use Prim.Native.Nat.{ℕ}
+use Rattle.insn.specs.declared.Shift.{Shift}
+use Rattle.insn.specs.declared.Shift.the-variants.{Lsl, Lsr, Asr, Ror}
+use Rattle.insn.specs.declared.Status.{Status}
+use Rattle.insn.specs.declared.Status.the-variants.{Apsr, Spsr}
+use Rattle.insn.specs.declared.AddrMode.{AddrMode}
+use Rattle.insn.specs.declared.AddrMode.the-variants.{Offset, PreIndex, PostIndex}
+use Rattle.insn.specs.declared.Flow.{Flow}
+use Rattle.insn.specs.declared.Flow.the-variants.{Next, Branch, CondBranch, IndirectBranch, Call, IndirectCall, Return, Trap}
+
+-- bits 6:5
+abbrev pub shiftNumber : Shift → ℕ
+shiftNumber Lsl = 0
+shiftNumber Lsr = 1
+shiftNumber Asr = 2
+shiftNumber Ror = 3
+
+-- bit 22 of mrs
+abbrev pub statusNumber : Status → ℕ
+statusNumber Apsr = 0
+statusNumber Spsr = 1
+
+-- "mode (offset, pre, post)"
+abbrev pub modeNumber : AddrMode → ℕ
+modeNumber Offset = 0
+modeNumber PreIndex = 1
+modeNumber PostIndex = 2
+
+-- "flow (next jump jump? ijump call icall ret trap)"
+abbrev pub flowNumber : Flow → ℕ
+flowNumber Next = 0
+flowNumber (Branch a) = 1
+flowNumber (CondBranch a) = 2
+flowNumber IndirectBranch = 3
+flowNumber (Call a) = 4
+flowNumber IndirectCall = 5
+flowNumber Return = 6
+flowNumber Trap = 7
+
+abbrev pub flowTarget : Flow → ℕ
+flowTarget Next = 0
+flowTarget (Branch a) = a
+flowTarget (CondBranch a) = a
+flowTarget IndirectBranch = 0
+flowTarget (Call a) = a
+flowTarget IndirectCall = 0
+flowTarget Return = 0
+flowTarget Trap = 0

@@ -1,0 +1,192 @@
+-- `ldst::extra_ldst::extra_ldst` meets its contract. Assumes nothing.
+use borrow.Author.Needs.{needs}
+use borrow.Author.Tests.{ne-eqb}
+use Rattle.ldst.proofs.extra_ldst.extra_ldst.Statement.{statement}
+use Rattle.ldst.proofs.extra_ldst.extra_ldst.Tie as tie
+
+bits-requires : tie.Need-bits-requires
+bits-requires c κs = search needs
+
+bit-requires : tie.Need-bit-requires
+bit-requires c κs = search needs
+
+is-unprivileged-requires : tie.Need-is-unprivileged-requires
+is-unprivileged-requires c κs = search needs
+
+refuse-requires : tie.Need-refuse-requires
+refuse-requires c κs = search needs
+
+returns : tie.Need-returns
+returns c =
+    simp (
+      c .refuse .ensures,
+      c .before .if1 .taken,
+      ← (c .before .before .is-unprivileged .ensures),
+      ← (c .before .before .before .bit .ensures),
+      ← (c .before .before .before .before .bits .ensures),
+    )
+
+is-subtracted-index-requires : tie.Need-is-subtracted-index-requires
+is-subtracted-index-requires c κs = search needs
+
+refuse-requires-2 : tie.Need-refuse-requires-2
+refuse-requires-2 c κs = search needs
+
+returns-2 : tie.Need-returns-2
+returns-2 c =
+    simp (
+      c .refuse2 .ensures,
+      c .before .if2 .taken,
+      ← (c .before .before .is-subtracted-index .ensures),
+      c .before .before .before .if1 .left,
+      ← (c .before .before .before .before .is-unprivileged .ensures),
+      ← (c .before .before .before .before .before .bit .ensures),
+      ← (c .before .before .before .before .before .before .bits .ensures),
+    )
+
+single-requires : tie.Need-single-requires
+single-requires c κs = search needs
+
+single-requires-2 : tie.Need-single-requires-2
+single-requires-2 c κs = search needs
+
+pair-requires : tie.Need-pair-requires
+pair-requires c κs = search needs
+
+single-requires-3 : tie.Need-single-requires-3
+single-requires-3 c κs = search needs
+
+pair-requires-2 : tie.Need-pair-requires-2
+pair-requires-2 c κs = search needs
+
+single-requires-4 : tie.Need-single-requires-4
+single-requires-4 c κs = search needs
+
+refuse-requires-3 : tie.Need-refuse-requires-3
+refuse-requires-3 c κs = search needs
+
+returns-3 : tie.Need-returns-3
+returns-3 c =
+    simp (
+      c .single .ensures,
+      c .before .if3 .taken,
+      c .before .before .match .keys1,
+      c .before .before .before .if2 .left,
+      ← (c .before .before .before .before .is-subtracted-index .ensures),
+      c .before .before .before .before .before .if1 .left,
+      ← (c .before .before .before .before .before .before .is-unprivileged .ensures),
+      ← (c .before .before .before .before .before .before .before .bit .ensures),
+      ← (c .before .before .before .before .before .before .before .before .bits .ensures),
+    )
+
+returns-4 : tie.Need-returns-4
+returns-4 c =
+    simp (
+      c .single2 .ensures,
+      ne-eqb _ _ (c .before .if3 .left),
+      c .before .before .match .keys1,
+      c .before .before .before .if2 .left,
+      ← (c .before .before .before .before .is-subtracted-index .ensures),
+      c .before .before .before .before .before .if1 .left,
+      ← (c .before .before .before .before .before .before .is-unprivileged .ensures),
+      ← (c .before .before .before .before .before .before .before .bit .ensures),
+      ← (c .before .before .before .before .before .before .before .before .bits .ensures),
+    )
+
+returns-5 : tie.Need-returns-5
+returns-5 c =
+    simp (
+      c .pair .ensures,
+      c .before .if4 .taken,
+      c .before .before .match .keys2,
+      c .before .before .before .if2 .left,
+      ← (c .before .before .before .before .is-subtracted-index .ensures),
+      c .before .before .before .before .before .if1 .left,
+      ← (c .before .before .before .before .before .before .is-unprivileged .ensures),
+      ← (c .before .before .before .before .before .before .before .bit .ensures),
+      ← (c .before .before .before .before .before .before .before .before .bits .ensures),
+    )
+
+returns-6 : tie.Need-returns-6
+returns-6 c =
+    simp (
+      c .single3 .ensures,
+      ne-eqb _ _ (c .before .if4 .left),
+      c .before .before .match .keys2,
+      c .before .before .before .if2 .left,
+      ← (c .before .before .before .before .is-subtracted-index .ensures),
+      c .before .before .before .before .before .if1 .left,
+      ← (c .before .before .before .before .before .before .is-unprivileged .ensures),
+      ← (c .before .before .before .before .before .before .before .bit .ensures),
+      ← (c .before .before .before .before .before .before .before .before .bits .ensures),
+    )
+
+returns-7 : tie.Need-returns-7
+returns-7 c =
+    simp (
+      c .pair2 .ensures,
+      c .before .if5 .taken,
+      c .before .before .match .keys3,
+      c .before .before .before .if2 .left,
+      ← (c .before .before .before .before .is-subtracted-index .ensures),
+      c .before .before .before .before .before .if1 .left,
+      ← (c .before .before .before .before .before .before .is-unprivileged .ensures),
+      ← (c .before .before .before .before .before .before .before .bit .ensures),
+      ← (c .before .before .before .before .before .before .before .before .bits .ensures),
+    )
+
+returns-8 : tie.Need-returns-8
+returns-8 c =
+    simp (
+      c .single4 .ensures,
+      ne-eqb _ _ (c .before .if5 .left),
+      c .before .before .match .keys3,
+      c .before .before .before .if2 .left,
+      ← (c .before .before .before .before .is-subtracted-index .ensures),
+      c .before .before .before .before .before .if1 .left,
+      ← (c .before .before .before .before .before .before .is-unprivileged .ensures),
+      ← (c .before .before .before .before .before .before .before .bit .ensures),
+      ← (c .before .before .before .before .before .before .before .before .bits .ensures),
+    )
+
+returns-9 : tie.Need-returns-9
+returns-9 c =
+    simp (
+      c .refuse3 .ensures,
+      ne-eqb _ _ (c .before .match .rest .1),
+      ne-eqb _ _ (c .before .match .rest .0 .1),
+      ne-eqb _ _ (c .before .match .rest .0 .0 .1),
+      c .before .before .if2 .left,
+      ← (c .before .before .before .is-subtracted-index .ensures),
+      c .before .before .before .before .if1 .left,
+      ← (c .before .before .before .before .before .is-unprivileged .ensures),
+      ← (c .before .before .before .before .before .before .bit .ensures),
+      ← (c .before .before .before .before .before .before .before .bits .ensures),
+    )
+
+pub extra-ldst-spec : {M : Type 1} → statement M
+extra-ldst-spec =
+    tie.close
+    (tie.spec
+    bits-requires
+    bit-requires
+    is-unprivileged-requires
+    refuse-requires
+    returns
+    is-subtracted-index-requires
+    refuse-requires-2
+    returns-2
+    single-requires
+    single-requires-2
+    pair-requires
+    single-requires-3
+    pair-requires-2
+    single-requires-4
+    refuse-requires-3
+    returns-3
+    returns-4
+    returns-5
+    returns-6
+    returns-7
+    returns-8
+    returns-9)

@@ -1,0 +1,87 @@
+-- `ldst::extra_ldst::pair` meets its contract. Assumes nothing.
+use mathlib.Core.Path.{_≡_}
+use borrow.Author.Needs.{needs}
+use borrow.Author.Tests.{ne-eqb}
+use Prim.Native.Nat.{_+_, _%_, _<_}
+use native.Mathlib.Nat.{mod-eq-of-lt}
+use native.Mathlib.Omega.{arith}
+use Rattle.word.specs.Field.{small}
+use Rattle.ldst.proofs.extra_ldst.pair.Statement.{statement}
+use Rattle.ldst.proofs.extra_ldst.pair.Tie as tie
+
+-- an even register is not the last of the sixteen
+next : (c : tie.Else1) → (c .before .bits .result + 1) % 16 ≡ c .before .bits .result + 1
+next c = mod-eq-of-lt (omega (arith, of-sixteen))
+  where
+    of-sixteen : c .before .bits .result < 16
+    of-sixteen = rw (c .before .bits .ensures) (small _ 12 4)
+
+bits-requires : tie.Need-bits-requires
+bits-requires c κs = search needs
+
+refuse-requires : tie.Need-refuse-requires
+refuse-requires c κs = search needs
+
+returns : tie.Need-returns
+returns c = simp (c .refuse .ensures, c .before .if1 .taken, ← (c .before .before .bits .ensures))
+
+at-requires : tie.Need-at-requires
+at-requires c κs = search needs
+
+op-at-requires : tie.Need-op-at-requires
+op-at-requires c κs = search needs
+
+with-requires : tie.Need-with-requires
+with-requires c κs = search needs
+
+add-reg : tie.Need-add-reg
+add-reg c = search needs
+
+reg-requires : tie.Need-reg-requires
+reg-requires c κs = search needs
+
+with-requires-2 : tie.Need-with-requires-2
+with-requires-2 c κs = search needs
+
+memory-requires : tie.Need-memory-requires
+memory-requires c κs = search needs
+
+with-requires-3 : tie.Need-with-requires-3
+with-requires-3 c κs = search needs
+
+accept-requires : tie.Need-accept-requires
+accept-requires c κs = search needs
+
+returns-2 : tie.Need-returns-2
+returns-2 c =
+    simp (
+      next (c .before .before .before .before .before .before .before .before),
+      c .accept .ensures,
+      c .before .with3 .ensures,
+      c .before .before .memory .ensures,
+      c .before .before .before .with2 .ensures,
+      c .before .before .before .before .reg .ensures,
+      c .before .before .before .before .before .with .ensures,
+      c .before .before .before .before .before .before .op-at .ensures,
+      c .before .before .before .before .before .before .before .at .ensures,
+      ne-eqb _ _ (c .before .before .before .before .before .before .before .before .if1 .left),
+      ← (c .before .before .before .before .before .before .before .before .before .bits .ensures),
+    )
+
+pub pair-spec : {M : Type 1} → statement M
+pair-spec =
+    tie.close
+    (tie.spec
+    bits-requires
+    refuse-requires
+    returns
+    at-requires
+    op-at-requires
+    with-requires
+    add-reg
+    reg-requires
+    with-requires-2
+    memory-requires
+    with-requires-3
+    accept-requires
+    returns-2)

@@ -1,0 +1,50 @@
+-- `ldst::ldst::by_lb` meets its contract. Assumes nothing.
+use borrow.Author.Needs.{needs}
+use borrow.Author.Tests.{ne-eqb}
+use Rattle.ldst.proofs.ldst.by_lb.Statement.{statement}
+use Rattle.ldst.proofs.ldst.by_lb.Tie as tie
+
+bit-requires : tie.Need-bit-requires
+bit-requires c κs = search needs
+
+bit-requires-2 : tie.Need-bit-requires-2
+bit-requires-2 c κs = search needs
+
+returns : tie.Need-returns
+returns c =
+    simp (
+      c .if2 .taken,
+      c .before .if1 .taken,
+      ← (c .before .before .bit2 .ensures),
+      ← (c .before .before .before .bit .ensures),
+    )
+
+returns-2 : tie.Need-returns-2
+returns-2 c =
+    simp (
+      ne-eqb _ _ (c .if2 .left),
+      c .before .if1 .taken,
+      ← (c .before .before .bit2 .ensures),
+      ← (c .before .before .before .bit .ensures),
+    )
+
+returns-3 : tie.Need-returns-3
+returns-3 c =
+    simp (
+      c .if3 .taken,
+      ne-eqb _ _ (c .before .if1 .left),
+      ← (c .before .before .bit2 .ensures),
+      ← (c .before .before .before .bit .ensures),
+    )
+
+returns-4 : tie.Need-returns-4
+returns-4 c =
+    simp (
+      ne-eqb _ _ (c .if3 .left),
+      ne-eqb _ _ (c .before .if1 .left),
+      ← (c .before .before .bit2 .ensures),
+      ← (c .before .before .before .bit .ensures),
+    )
+
+pub by-lb-spec : {M : Type 1} → statement M
+by-lb-spec = tie.close (tie.spec bit-requires bit-requires-2 returns returns-2 returns-3 returns-4)

@@ -1,0 +1,3 @@
+pub mod Mem
+pub mod ExtraLdst
+pub mod Ldst

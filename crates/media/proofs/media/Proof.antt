@@ -1,0 +1,345 @@
+-- `media::media` meets its contract. Assumes nothing.
+use borrow.Author.Needs.{needs}
+use borrow.Author.Tests.{ne-eqb}
+use Rattle.media.proofs.media.Statement.{statement}
+use Rattle.media.proofs.media.Tie as tie
+
+bits-requires : tie.Need-bits-requires
+bits-requires c κs = search needs
+
+bits-requires-2 : tie.Need-bits-requires-2
+bits-requires-2 c κs = search needs
+
+bits-requires-3 : tie.Need-bits-requires-3
+bits-requires-3 c κs = search needs
+
+udf-requires : tie.Need-udf-requires
+udf-requires c κs = search needs
+
+bfx-requires : tie.Need-bfx-requires
+bfx-requires c κs = search needs
+
+bfx-requires-2 : tie.Need-bfx-requires-2
+bfx-requires-2 c κs = search needs
+
+bfx-requires-3 : tie.Need-bfx-requires-3
+bfx-requires-3 c κs = search needs
+
+bfx-requires-4 : tie.Need-bfx-requires-4
+bfx-requires-4 c κs = search needs
+
+bf-requires : tie.Need-bf-requires
+bf-requires c κs = search needs
+
+bf-requires-2 : tie.Need-bf-requires-2
+bf-requires-2 c κs = search needs
+
+div-requires : tie.Need-div-requires
+div-requires c κs = search needs
+
+div-requires-2 : tie.Need-div-requires-2
+div-requires-2 c κs = search needs
+
+ssat-requires : tie.Need-ssat-requires
+ssat-requires c κs = search needs
+
+extend-requires : tie.Need-extend-requires
+extend-requires c κs = search needs
+
+ssat-requires-2 : tie.Need-ssat-requires-2
+ssat-requires-2 c κs = search needs
+
+rev-or-extend-requires : tie.Need-rev-or-extend-requires
+rev-or-extend-requires c κs = search needs
+
+usat-requires : tie.Need-usat-requires
+usat-requires c κs = search needs
+
+extend-requires-2 : tie.Need-extend-requires-2
+extend-requires-2 c κs = search needs
+
+usat-requires-2 : tie.Need-usat-requires-2
+usat-requires-2 c κs = search needs
+
+rev-or-extend-requires-2 : tie.Need-rev-or-extend-requires-2
+rev-or-extend-requires-2 c κs = search needs
+
+extend-requires-3 : tie.Need-extend-requires-3
+extend-requires-3 c κs = search needs
+
+extend-requires-4 : tie.Need-extend-requires-4
+extend-requires-4 c κs = search needs
+
+refuse-requires : tie.Need-refuse-requires
+refuse-requires c κs = search needs
+
+returns : tie.Need-returns
+returns c =
+    simp (
+      c .udf .ensures,
+      c .before .if1 .taken,
+      c .before .before .match .keys1,
+      ← (c .before .before .before .bits3 .ensures),
+      ← (c .before .before .before .before .bits2 .ensures),
+      ← (c .before .before .before .before .before .bits .ensures),
+    )
+
+returns-2 : tie.Need-returns-2
+returns-2 c =
+    simp (
+      c .bfx .ensures,
+      ne-eqb _ _ (c .before .if1 .left),
+      c .before .before .match .keys1,
+      ← (c .before .before .before .bits3 .ensures),
+      ← (c .before .before .before .before .bits2 .ensures),
+      ← (c .before .before .before .before .before .bits .ensures),
+    )
+
+returns-3 : tie.Need-returns-3
+returns-3 c =
+    simp (
+      c .bfx2 .ensures,
+      c .before .match .keys2,
+      ← (c .before .before .bits3 .ensures),
+      ← (c .before .before .before .bits2 .ensures),
+      ← (c .before .before .before .before .bits .ensures),
+    )
+
+returns-4 : tie.Need-returns-4
+returns-4 c =
+    simp (
+      c .bfx3 .ensures,
+      c .before .match .keys3,
+      ← (c .before .before .bits3 .ensures),
+      ← (c .before .before .before .bits2 .ensures),
+      ← (c .before .before .before .before .bits .ensures),
+    )
+
+returns-5 : tie.Need-returns-5
+returns-5 c =
+    simp (
+      c .bfx4 .ensures,
+      c .before .match .keys4,
+      ← (c .before .before .bits3 .ensures),
+      ← (c .before .before .before .bits2 .ensures),
+      ← (c .before .before .before .before .bits .ensures),
+    )
+
+returns-6 : tie.Need-returns-6
+returns-6 c =
+    simp (
+      c .bf .ensures,
+      c .before .match .keys5,
+      ← (c .before .before .bits3 .ensures),
+      ← (c .before .before .before .bits2 .ensures),
+      ← (c .before .before .before .before .bits .ensures),
+    )
+
+returns-7 : tie.Need-returns-7
+returns-7 c =
+    simp (
+      c .bf2 .ensures,
+      c .before .match .keys6,
+      ← (c .before .before .bits3 .ensures),
+      ← (c .before .before .before .bits2 .ensures),
+      ← (c .before .before .before .before .bits .ensures),
+    )
+
+returns-8 : tie.Need-returns-8
+returns-8 c =
+    simp (
+      c .div .ensures,
+      c .before .match .keys7,
+      ← (c .before .before .bits3 .ensures),
+      ← (c .before .before .before .bits2 .ensures),
+      ← (c .before .before .before .before .bits .ensures),
+    )
+
+returns-9 : tie.Need-returns-9
+returns-9 c =
+    simp (
+      c .div2 .ensures,
+      c .before .match .keys8,
+      ← (c .before .before .bits3 .ensures),
+      ← (c .before .before .before .bits2 .ensures),
+      ← (c .before .before .before .before .bits .ensures),
+    )
+
+returns-10 : tie.Need-returns-10
+returns-10 c =
+    simp (
+      c .ssat .ensures,
+      c .before .if2 .taken,
+      c .before .before .match .keys9,
+      ← (c .before .before .before .bits3 .ensures),
+      ← (c .before .before .before .before .bits2 .ensures),
+      ← (c .before .before .before .before .before .bits .ensures),
+    )
+
+returns-11 : tie.Need-returns-11
+returns-11 c =
+    simp (
+      c .extend .ensures,
+      ne-eqb _ _ (c .before .if2 .left),
+      c .before .before .match .keys9,
+      ← (c .before .before .before .bits3 .ensures),
+      ← (c .before .before .before .before .bits2 .ensures),
+      ← (c .before .before .before .before .before .bits .ensures),
+    )
+
+returns-12 : tie.Need-returns-12
+returns-12 c =
+    simp (
+      c .ssat2 .ensures,
+      c .before .if3 .taken,
+      c .before .before .match .keys10,
+      ← (c .before .before .before .bits3 .ensures),
+      ← (c .before .before .before .before .bits2 .ensures),
+      ← (c .before .before .before .before .before .bits .ensures),
+    )
+
+returns-13 : tie.Need-returns-13
+returns-13 c =
+    simp (
+      c .rev-or-extend .ensures,
+      ne-eqb _ _ (c .before .if3 .left),
+      c .before .before .match .keys10,
+      ← (c .before .before .before .bits3 .ensures),
+      ← (c .before .before .before .before .bits2 .ensures),
+      ← (c .before .before .before .before .before .bits .ensures),
+    )
+
+returns-14 : tie.Need-returns-14
+returns-14 c =
+    simp (
+      c .usat .ensures,
+      c .before .if4 .taken,
+      c .before .before .match .keys11,
+      ← (c .before .before .before .bits3 .ensures),
+      ← (c .before .before .before .before .bits2 .ensures),
+      ← (c .before .before .before .before .before .bits .ensures),
+    )
+
+returns-15 : tie.Need-returns-15
+returns-15 c =
+    simp (
+      c .extend2 .ensures,
+      ne-eqb _ _ (c .before .if4 .left),
+      c .before .before .match .keys11,
+      ← (c .before .before .before .bits3 .ensures),
+      ← (c .before .before .before .before .bits2 .ensures),
+      ← (c .before .before .before .before .before .bits .ensures),
+    )
+
+returns-16 : tie.Need-returns-16
+returns-16 c =
+    simp (
+      c .usat2 .ensures,
+      c .before .if5 .taken,
+      c .before .before .match .keys12,
+      ← (c .before .before .before .bits3 .ensures),
+      ← (c .before .before .before .before .bits2 .ensures),
+      ← (c .before .before .before .before .before .bits .ensures),
+    )
+
+returns-17 : tie.Need-returns-17
+returns-17 c =
+    simp (
+      c .rev-or-extend2 .ensures,
+      ne-eqb _ _ (c .before .if5 .left),
+      c .before .before .match .keys12,
+      ← (c .before .before .before .bits3 .ensures),
+      ← (c .before .before .before .before .bits2 .ensures),
+      ← (c .before .before .before .before .before .bits .ensures),
+    )
+
+returns-18 : tie.Need-returns-18
+returns-18 c =
+    simp (
+      c .extend3 .ensures,
+      c .before .match .keys13,
+      ← (c .before .before .bits3 .ensures),
+      ← (c .before .before .before .bits2 .ensures),
+      ← (c .before .before .before .before .bits .ensures),
+    )
+
+returns-19 : tie.Need-returns-19
+returns-19 c =
+    simp (
+      c .extend4 .ensures,
+      c .before .match .keys14,
+      ← (c .before .before .bits3 .ensures),
+      ← (c .before .before .before .bits2 .ensures),
+      ← (c .before .before .before .before .bits .ensures),
+    )
+
+returns-20 : tie.Need-returns-20
+returns-20 c =
+    simp (
+      c .refuse .ensures,
+      ne-eqb _ _ (c .before .match .rest .1),
+      ne-eqb _ _ (c .before .match .rest .0 .1),
+      ne-eqb _ _ (c .before .match .rest .0 .0 .1),
+      ne-eqb _ _ (c .before .match .rest .0 .0 .0 .1),
+      ne-eqb _ _ (c .before .match .rest .0 .0 .0 .0 .1),
+      ne-eqb _ _ (c .before .match .rest .0 .0 .0 .0 .0 .1),
+      ne-eqb _ _ (c .before .match .rest .0 .0 .0 .0 .0 .0 .1),
+      ne-eqb _ _ (c .before .match .rest .0 .0 .0 .0 .0 .0 .0 .1),
+      ne-eqb _ _ (c .before .match .rest .0 .0 .0 .0 .0 .0 .0 .0 .1),
+      ne-eqb _ _ (c .before .match .rest .0 .0 .0 .0 .0 .0 .0 .0 .0 .1),
+      ne-eqb _ _ (c .before .match .rest .0 .0 .0 .0 .0 .0 .0 .0 .0 .0 .1),
+      ne-eqb _ _ (c .before .match .rest .0 .0 .0 .0 .0 .0 .0 .0 .0 .0 .0 .1),
+      ne-eqb _ _ (c .before .match .rest .0 .0 .0 .0 .0 .0 .0 .0 .0 .0 .0 .0 .1),
+      ne-eqb _ _ (c .before .match .rest .0 .0 .0 .0 .0 .0 .0 .0 .0 .0 .0 .0 .0 .1),
+      ← (c .before .before .bits3 .ensures),
+      ← (c .before .before .before .bits2 .ensures),
+      ← (c .before .before .before .before .bits .ensures),
+    )
+
+pub media-spec : {M : Type 1} → statement M
+media-spec =
+    tie.close
+    (tie.spec
+    bits-requires
+    bits-requires-2
+    bits-requires-3
+    udf-requires
+    bfx-requires
+    bfx-requires-2
+    bfx-requires-3
+    bfx-requires-4
+    bf-requires
+    bf-requires-2
+    div-requires
+    div-requires-2
+    ssat-requires
+    extend-requires
+    ssat-requires-2
+    rev-or-extend-requires
+    usat-requires
+    extend-requires-2
+    usat-requires-2
+    rev-or-extend-requires-2
+    extend-requires-3
+    extend-requires-4
+    refuse-requires
+    returns
+    returns-2
+    returns-3
+    returns-4
+    returns-5
+    returns-6
+    returns-7
+    returns-8
+    returns-9
+    returns-10
+    returns-11
+    returns-12
+    returns-13
+    returns-14
+    returns-15
+    returns-16
+    returns-17
+    returns-18
+    returns-19
+    returns-20)

@@ -1,0 +1,62 @@
+-- `media::rev` meets its contract. Assumes nothing.
+use borrow.Author.Needs.{needs}
+use borrow.Author.Tests.{ne-eqb}
+use Rattle.media.proofs.rev.Statement.{statement}
+use Rattle.media.proofs.rev.Tie as tie
+
+bits-requires : tie.Need-bits-requires
+bits-requires c κs = search needs
+
+bits-requires-2 : tie.Need-bits-requires-2
+bits-requires-2 c κs = search needs
+
+two-requires : tie.Need-two-requires
+two-requires c κs = search needs
+
+refuse-requires : tie.Need-refuse-requires
+refuse-requires c κs = search needs
+
+refuse-requires-2 : tie.Need-refuse-requires-2
+refuse-requires-2 c κs = search needs
+
+returns : tie.Need-returns
+returns c =
+    simp (
+      c .two .ensures,
+      c .before .if2 .taken,
+      c .before .before .if1 .taken,
+      ← (c .before .before .before .bits2 .ensures),
+      ← (c .before .before .before .before .bits .ensures),
+    )
+
+returns-2 : tie.Need-returns-2
+returns-2 c =
+    simp (
+      c .refuse .ensures,
+      ne-eqb _ _ (c .before .if2 .left),
+      c .before .before .if1 .taken,
+      ← (c .before .before .before .bits2 .ensures),
+      ← (c .before .before .before .before .bits .ensures),
+    )
+
+returns-3 : tie.Need-returns-3
+returns-3 c =
+    simp (
+      c .refuse2 .ensures,
+      ne-eqb _ _ (c .before .if1 .left),
+      ← (c .before .before .bits2 .ensures),
+      ← (c .before .before .before .bits .ensures),
+    )
+
+pub rev-spec : {M : Type 1} → statement M
+rev-spec =
+    tie.close
+    (tie.spec
+    bits-requires
+    bits-requires-2
+    two-requires
+    refuse-requires
+    refuse-requires-2
+    returns
+    returns-2
+    returns-3)

@@ -1,0 +1,50 @@
+-- `misc::bkpt` meets its contract. Assumes nothing.
+use borrow.Author.Needs.{needs}
+use borrow.Author.Tests.{ne-eqb}
+use Rattle.misc.proofs.bkpt.Statement.{statement}
+use Rattle.misc.proofs.bkpt.Tie as tie
+
+bits-requires : tie.Need-bits-requires
+bits-requires c κs = search needs
+
+at-requires : tie.Need-at-requires
+at-requires c κs = search needs
+
+bits-then-requires : tie.Need-bits-then-requires
+bits-then-requires c κs = search needs
+
+with-requires : tie.Need-with-requires
+with-requires c κs = search needs
+
+accept-requires : tie.Need-accept-requires
+accept-requires c κs = search needs
+
+refuse-requires : tie.Need-refuse-requires
+refuse-requires c κs = search needs
+
+returns : tie.Need-returns
+returns c =
+    simp (
+      c .accept .ensures,
+      c .before .with .ensures,
+      ← (c .before .before .bits-then .ensures),
+      c .before .before .before .at .ensures,
+      c .before .before .before .before .match .keys1,
+      ← (c .before .before .before .before .before .bits .ensures),
+    )
+
+returns-2 : tie.Need-returns-2
+returns-2 c = simp (c .refuse .ensures, ne-eqb _ _ (c .before .match .rest .1), ← (c .before .before .bits .ensures))
+
+pub bkpt-spec : {M : Type 1} → statement M
+bkpt-spec =
+    tie.close
+    (tie.spec
+    bits-requires
+    at-requires
+    bits-then-requires
+    with-requires
+    accept-requires
+    refuse-requires
+    returns
+    returns-2)

@@ -1,0 +1,62 @@
+-- `misc::saturating` meets its contract. Assumes nothing.
+use borrow.Author.Needs.{needs}
+use borrow.Author.Tests.{ne-eqb}
+use Rattle.misc.proofs.saturating.Statement.{statement}
+use Rattle.misc.proofs.saturating.Tie as tie
+
+bits-requires : tie.Need-bits-requires
+bits-requires c κs = search needs
+
+three-requires : tie.Need-three-requires
+three-requires c κs = search needs
+
+three-requires-2 : tie.Need-three-requires-2
+three-requires-2 c κs = search needs
+
+three-requires-3 : tie.Need-three-requires-3
+three-requires-3 c κs = search needs
+
+three-requires-4 : tie.Need-three-requires-4
+three-requires-4 c κs = search needs
+
+refuse-requires : tie.Need-refuse-requires
+refuse-requires c κs = search needs
+
+returns : tie.Need-returns
+returns c = simp (c .three .ensures, c .before .match .keys1, ← (c .before .before .bits .ensures))
+
+returns-2 : tie.Need-returns-2
+returns-2 c = simp (c .three2 .ensures, c .before .match .keys2, ← (c .before .before .bits .ensures))
+
+returns-3 : tie.Need-returns-3
+returns-3 c = simp (c .three3 .ensures, c .before .match .keys3, ← (c .before .before .bits .ensures))
+
+returns-4 : tie.Need-returns-4
+returns-4 c = simp (c .three4 .ensures, c .before .match .keys4, ← (c .before .before .bits .ensures))
+
+returns-5 : tie.Need-returns-5
+returns-5 c =
+    simp (
+      c .refuse .ensures,
+      ne-eqb _ _ (c .before .match .rest .1),
+      ne-eqb _ _ (c .before .match .rest .0 .1),
+      ne-eqb _ _ (c .before .match .rest .0 .0 .1),
+      ne-eqb _ _ (c .before .match .rest .0 .0 .0 .1),
+      ← (c .before .before .bits .ensures),
+    )
+
+pub saturating-spec : {M : Type 1} → statement M
+saturating-spec =
+    tie.close
+    (tie.spec
+    bits-requires
+    three-requires
+    three-requires-2
+    three-requires-3
+    three-requires-4
+    refuse-requires
+    returns
+    returns-2
+    returns-3
+    returns-4
+    returns-5)

@@ -1,0 +1,62 @@
+-- `misc::status` meets its contract. Assumes nothing.
+use borrow.Author.Needs.{needs}
+use borrow.Author.Tests.{ne-eqb}
+use Rattle.misc.proofs.status.Statement.{statement}
+use Rattle.misc.proofs.status.Tie as tie
+
+bit-requires : tie.Need-bit-requires
+bit-requires c κs = search needs
+
+bit-requires-2 : tie.Need-bit-requires-2
+bit-requires-2 c κs = search needs
+
+mrs-requires : tie.Need-mrs-requires
+mrs-requires c κs = search needs
+
+msr-requires : tie.Need-msr-requires
+msr-requires c κs = search needs
+
+refuse-requires : tie.Need-refuse-requires
+refuse-requires c κs = search needs
+
+returns : tie.Need-returns
+returns c =
+    simp (
+      c .mrs .ensures,
+      c .before .if2 .taken,
+      c .before .before .if1 .taken,
+      ← (c .before .before .before .bit2 .ensures),
+      ← (c .before .before .before .before .bit .ensures),
+    )
+
+returns-2 : tie.Need-returns-2
+returns-2 c =
+    simp (
+      c .msr .ensures,
+      ne-eqb _ _ (c .before .if2 .left),
+      c .before .before .if1 .taken,
+      ← (c .before .before .before .bit2 .ensures),
+      ← (c .before .before .before .before .bit .ensures),
+    )
+
+returns-3 : tie.Need-returns-3
+returns-3 c =
+    simp (
+      c .refuse .ensures,
+      ne-eqb _ _ (c .before .if1 .left),
+      ← (c .before .before .bit2 .ensures),
+      ← (c .before .before .before .bit .ensures),
+    )
+
+pub status-spec : {M : Type 1} → statement M
+status-spec =
+    tie.close
+    (tie.spec
+    bit-requires
+    bit-requires-2
+    mrs-requires
+    msr-requires
+    refuse-requires
+    returns
+    returns-2
+    returns-3)

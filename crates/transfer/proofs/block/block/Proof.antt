@@ -1,0 +1,62 @@
+-- `transfer::block::block` meets its contract. Assumes nothing.
+use borrow.Author.Needs.{needs}
+use borrow.Author.Tests.{ne-eqb}
+use Rattle.transfer.proofs.block.block.Statement.{statement}
+use Rattle.transfer.proofs.block.block.Tie as tie
+
+bit-requires : tie.Need-bit-requires
+bit-requires c κs = search needs
+
+bits-requires : tie.Need-bits-requires
+bits-requires c κs = search needs
+
+refuse-requires : tie.Need-refuse-requires
+refuse-requires c κs = search needs
+
+listed-requires : tie.Need-listed-requires
+listed-requires c κs = search needs
+
+refuse-requires-2 : tie.Need-refuse-requires-2
+refuse-requires-2 c κs = search needs
+
+returns : tie.Need-returns
+returns c =
+    simp (
+      c .refuse .ensures,
+      c .before .if2 .taken,
+      c .before .before .if1 .taken,
+      ← (c .before .before .before .bits .ensures),
+      ← (c .before .before .before .before .bit .ensures),
+    )
+
+returns-2 : tie.Need-returns-2
+returns-2 c =
+    simp (
+      c .listed .ensures,
+      ne-eqb _ _ (c .before .if2 .left),
+      c .before .before .if1 .taken,
+      ← (c .before .before .before .bits .ensures),
+      ← (c .before .before .before .before .bit .ensures),
+    )
+
+returns-3 : tie.Need-returns-3
+returns-3 c =
+    simp (
+      c .refuse2 .ensures,
+      ne-eqb _ _ (c .before .if1 .left),
+      ← (c .before .before .bits .ensures),
+      ← (c .before .before .before .bit .ensures),
+    )
+
+pub block-spec : {M : Type 1} → statement M
+block-spec =
+    tie.close
+    (tie.spec
+    bit-requires
+    bits-requires
+    refuse-requires
+    listed-requires
+    refuse-requires-2
+    returns
+    returns-2
+    returns-3)

@@ -1,0 +1,54 @@
+-- `transfer::block::is_stack` meets its contract. Assumes nothing.
+use borrow.Author.Needs.{needs}
+use borrow.Author.Tests.{ne-eqb}
+use Rattle.word.specs.Field.{small}
+use Rattle.transfer.proofs.Ones.{ones-in}
+use Rattle.transfer.specs.Block.{stackOf}
+use Rattle.transfer.proofs.block.is_stack.Statement.{statement}
+use Rattle.transfer.proofs.block.is_stack.Tie as tie
+
+bits-requires : tie.Need-bits-requires
+bits-requires c κs = search needs
+
+bit-requires : tie.Need-bit-requires
+bit-requires c κs = search needs
+
+bits-requires-2 : tie.Need-bits-requires-2
+bits-requires-2 c κs = search needs
+
+returns : tie.Need-returns
+unfolding stackOf
+returns c =
+    simp (
+      ones-in 16 (c .before .before .bits2 .result) (rw (c .before .before .bits2 .ensures) (small _ 0 16)),
+      c .if2 .taken,
+      c .before .if1 .taken,
+      ← (c .before .before .bits2 .ensures),
+      ← (c .before .before .before .bit .ensures),
+      ← (c .before .before .before .before .bits .ensures),
+    )
+
+returns-2 : tie.Need-returns-2
+unfolding stackOf
+returns-2 c =
+    simp (
+      ne-eqb _ _ (c .if2 .left),
+      c .before .if1 .taken,
+      ← (c .before .before .bits2 .ensures),
+      ← (c .before .before .before .bit .ensures),
+      ← (c .before .before .before .before .bits .ensures),
+    )
+
+returns-3 : tie.Need-returns-3
+unfolding stackOf
+returns-3 c =
+    simp (
+      ne-eqb _ _ (c .if1 .left),
+      ← (c .before .bits2 .ensures),
+      ← (c .before .before .bit .ensures),
+      ← (c .before .before .before .bits .ensures),
+    )
+
+pub is-stack-spec : {M : Type 1} → statement M
+is-stack-spec =
+    tie.close (tie.spec bits-requires bit-requires bits-requires-2 returns returns-2 returns-3)

@@ -1,0 +1,78 @@
+-- `transfer::block::stack` meets its contract. Assumes nothing.
+use borrow.Author.Needs.{needs}
+use borrow.Author.Tests.{ne-eqb}
+use Rattle.transfer.proofs.block.stack.Statement.{statement}
+use Rattle.transfer.proofs.block.stack.Tie as tie
+
+bits-requires : tie.Need-bits-requires
+bits-requires c κs = search needs
+
+bit-requires : tie.Need-bit-requires
+bit-requires c κs = search needs
+
+only-list-requires : tie.Need-only-list-requires
+only-list-requires c κs = search needs
+
+multiple-requires : tie.Need-multiple-requires
+multiple-requires c κs = search needs
+
+only-list-requires-2 : tie.Need-only-list-requires-2
+only-list-requires-2 c κs = search needs
+
+multiple-requires-2 : tie.Need-multiple-requires-2
+multiple-requires-2 c κs = search needs
+
+returns : tie.Need-returns
+returns c =
+    simp (
+      c .only-list .ensures,
+      c .before .if2 .taken,
+      c .before .before .if1 .taken,
+      ← (c .before .before .before .bit .ensures),
+      ← (c .before .before .before .before .bits .ensures),
+    )
+
+returns-2 : tie.Need-returns-2
+returns-2 c =
+    simp (
+      c .multiple .ensures,
+      ne-eqb _ _ (c .before .if2 .left),
+      c .before .before .if1 .taken,
+      ← (c .before .before .before .bit .ensures),
+      ← (c .before .before .before .before .bits .ensures),
+    )
+
+returns-3 : tie.Need-returns-3
+returns-3 c =
+    simp (
+      c .only-list2 .ensures,
+      c .before .if3 .taken,
+      ne-eqb _ _ (c .before .before .if1 .left),
+      ← (c .before .before .before .bit .ensures),
+      ← (c .before .before .before .before .bits .ensures),
+    )
+
+returns-4 : tie.Need-returns-4
+returns-4 c =
+    simp (
+      c .multiple2 .ensures,
+      ne-eqb _ _ (c .before .if3 .left),
+      ne-eqb _ _ (c .before .before .if1 .left),
+      ← (c .before .before .before .bit .ensures),
+      ← (c .before .before .before .before .bits .ensures),
+    )
+
+pub stack-spec : {M : Type 1} → statement M
+stack-spec =
+    tie.close
+    (tie.spec
+    bits-requires
+    bit-requires
+    only-list-requires
+    multiple-requires
+    only-list-requires-2
+    multiple-requires-2
+    returns
+    returns-2
+    returns-3
+    returns-4)

@@ -1,0 +1,69 @@
+-- `transfer::branch::branch` meets its contract. Assumes nothing.
+use borrow.Author.Needs.{needs}
+use borrow.Author.Tests.{ne-eqb}
+use Rattle.transfer.proofs.branch.branch.Statement.{statement}
+use Rattle.transfer.proofs.branch.branch.Tie as tie
+
+branch-target-requires : tie.Need-branch-target-requires
+branch-target-requires c κs = search needs
+
+bit-requires : tie.Need-bit-requires
+bit-requires c κs = search needs
+
+bits-requires : tie.Need-bits-requires
+bits-requires c κs = search needs
+
+going-requires : tie.Need-going-requires
+going-requires c κs = search needs
+
+returns : tie.Need-returns
+returns c =
+    simp (
+      c .going .ensures,
+      c .before .if1 .taken,
+      ← (c .before .before .bits .ensures),
+      ← (c .before .before .before .bit .ensures),
+      c .before .before .before .before .branch-target .ensures,
+    )
+
+going-requires-2 : tie.Need-going-requires-2
+going-requires-2 c κs = search needs
+
+going-requires-3 : tie.Need-going-requires-3
+going-requires-3 c κs = search needs
+
+returns-2 : tie.Need-returns-2
+returns-2 c =
+    simp (
+      c .going2 .ensures,
+      c .before .if2 .taken,
+      ne-eqb _ _ (c .before .before .if1 .left),
+      ← (c .before .before .before .bits .ensures),
+      ← (c .before .before .before .before .bit .ensures),
+      c .before .before .before .before .before .branch-target .ensures,
+    )
+
+returns-3 : tie.Need-returns-3
+returns-3 c =
+    simp (
+      c .going3 .ensures,
+      ne-eqb _ _ (c .before .if2 .left),
+      ne-eqb _ _ (c .before .before .if1 .left),
+      ← (c .before .before .before .bits .ensures),
+      ← (c .before .before .before .before .bit .ensures),
+      c .before .before .before .before .before .branch-target .ensures,
+    )
+
+pub branch-spec : {M : Type 1} → statement M
+branch-spec =
+    tie.close
+    (tie.spec
+    branch-target-requires
+    bit-requires
+    bits-requires
+    going-requires
+    returns
+    going-requires-2
+    going-requires-3
+    returns-2
+    returns-3)

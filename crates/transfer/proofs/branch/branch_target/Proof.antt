@@ -1,0 +1,62 @@
+-- `transfer::branch::branch_target` meets its contract. Assumes nothing.
+use borrow.Author.Needs.{needs}
+use mathlib.Core.Path.{_≡_, _∙_, ap}
+use Prim.Native.Nat.{ℕ, _+_, _*_, _%_, _^_, _<_}
+use native.Mathlib.Nat.{add-mod-mod}
+use native.Mathlib.Omega.{arith}
+use Rattle.word.specs.Field.{small}
+use Rattle.word.specs.Signed.{targetOf}
+use Rattle.transfer.specs.Branch.{targetFrom}
+use Rattle.transfer.proofs.branch.branch_target.Statement.{statement}
+use Rattle.transfer.proofs.branch.branch_target.Tie as tie
+
+bits-requires : tie.Need-bits-requires
+bits-requires c κs = search needs
+
+offset : (c : tie.After-bits) → c .bits .result < 16777216
+offset c = rw (c .bits .ensures) (small _ _ 24)
+
+mul-sext : tie.Need-mul-sext
+mul-sext c = omega (arith, offset c)
+
+sext-requires : tie.Need-sext-requires
+sext-requires c κs = omega (arith, offset c)
+
+add-wrapping-add-u32 : tie.Need-add-wrapping-add-u32
+add-wrapping-add-u32 c = search needs
+
+wrapping-add-u32-requires : tie.Need-wrapping-add-u32-requires
+wrapping-add-u32-requires c κs = search needs
+
+target-requires : tie.Need-target-requires
+target-requires c κs = search needs
+
+-- the sums wrap to the same
+wraps : (addr off extra : ℕ) → (addr + (8 + extra + off) % 2 ^ 32) % 2 ^ 32 ≡ (addr + 8 + off + extra) % 2 ^ 32
+wraps addr off extra = add-mod-mod addr (8 + extra + off) (2 ^ 32) ∙ ap (λ (n : ℕ). n % 2 ^ 32) same
+  where
+    same : addr + (8 + extra + off) ≡ addr + 8 + off + extra
+    same = omega arith
+
+returns : tie.Need-returns
+unfolding targetOf targetFrom
+returns c =
+    simp (
+      c .target .ensures,
+      c .before .wrapping-add-u32 .ensures,
+      c .before .before .sext .ensures,
+      c .before .before .before .bits .ensures,
+    )
+    (wraps (c .before .before .before .before .args .addr) _ (c .before .before .before .before .args .extra))
+
+pub branch-target-spec : {M : Type 1} → statement M
+branch-target-spec =
+    tie.close
+    (tie.spec
+    bits-requires
+    mul-sext
+    sext-requires
+    add-wrapping-add-u32
+    wrapping-add-u32-requires
+    target-requires
+    returns)

@@ -1,0 +1,51 @@
+-- `transfer::unconditional::is_preload` meets its contract. Assumes nothing.
+use borrow.Author.Needs.{needs}
+use borrow.Author.Tests.{ne-eqb}
+use Rattle.transfer.specs.Unconditional.{preloadSlot}
+use Rattle.transfer.proofs.unconditional.is_preload.Statement.{statement}
+use Rattle.transfer.proofs.unconditional.is_preload.Tie as tie
+
+bits-requires : tie.Need-bits-requires
+bits-requires c κs = search needs
+
+bits-requires-2 : tie.Need-bits-requires-2
+bits-requires-2 c κs = search needs
+
+bit-requires : tie.Need-bit-requires
+bit-requires c κs = search needs
+
+returns : tie.Need-returns
+unfolding preloadSlot
+returns c =
+    simp (
+      c .if2 .taken,
+      c .before .if1 .taken,
+      ← (c .before .before .bit .ensures),
+      ← (c .before .before .before .bits2 .ensures),
+      ← (c .before .before .before .before .bits .ensures),
+    )
+
+returns-2 : tie.Need-returns-2
+unfolding preloadSlot
+returns-2 c =
+    simp (
+      ne-eqb _ _ (c .if2 .left),
+      c .before .if1 .taken,
+      ← (c .before .before .bit .ensures),
+      ← (c .before .before .before .bits2 .ensures),
+      ← (c .before .before .before .before .bits .ensures),
+    )
+
+returns-3 : tie.Need-returns-3
+unfolding preloadSlot
+returns-3 c =
+    simp (
+      ne-eqb _ _ (c .if1 .left),
+      ← (c .before .bit .ensures),
+      ← (c .before .before .bits2 .ensures),
+      ← (c .before .before .before .bits .ensures),
+    )
+
+pub is-preload-spec : {M : Type 1} → statement M
+is-preload-spec =
+    tie.close (tie.spec bits-requires bits-requires-2 bit-requires returns returns-2 returns-3)

@@ -1,0 +1,76 @@
+//! Condition 15, a second instruction space.
+use crate::branch::branch_target;
+use crate::branch::going;
+use arm::NO_ROW;
+use arm::RN;
+use arm::at;
+use arm::reg_at;
+use insn::Decoded;
+use insn::Flow;
+use insn::Mem;
+use insn::Operand;
+use insn::name;
+use insn::refuse;
+use ldst::mem::disp;
+use word::bit;
+use word::bits;
+ghost use mathlib.Core.Path.{_≡_};
+ghost use Rattle.transfer.specs.Unconditional.{unconditionalOf, blxOf, preloadSlot, preloadOf, memoryOf, preloadName};
+
+/// Condition 15 is a second instruction space: `pld`, and the `blx` that changes instruction set.
+pub fn unconditional(w: u32, addr: u64) -> Decoded
+    ensures { λ r. ⌜ r ≡ unconditionalOf w addr ⌝ }
+{
+    let op = bits(w, 27, 25);
+    if op == 0b101 {
+        return blx(w, addr);
+    }
+    if is_preload(w) {
+        preload(w, addr)
+    } else {
+        refuse(NO_ROW)
+    }
+}
+
+fn blx(w: u32, addr: u64) -> Decoded
+    ensures { λ r. ⌜ r ≡ blxOf w addr ⌝ }
+{
+    let half = bit(w, 24);
+    let to = branch_target(w, addr, half * 2);
+    going(w, addr, name::BLX, Flow::Call(to), to)
+}
+
+/// The preloads of an offset.
+fn is_preload(w: u32) -> bool
+    ensures { λ r. ⌜ r ≡ preloadSlot w ⌝ }
+{
+    let op = bits(w, 27, 24);
+    let rd = bits(w, 15, 12);
+    let by = bit(w, 4);
+    if op == 0b0101 {
+        if rd == 15 { by == 0 } else { false }
+    } else {
+        false
+    }
+}
+
+/// `pld` and `pldw`, whose only operand is the address they touch.
+fn preload(w: u32, addr: u64) -> Decoded
+    ensures { λ r. ⌜ r ≡ preloadOf w addr ⌝ }
+{
+    at(w, addr, preload_name(w), Flow::Next).with(0, memory(w))
+        .accept()
+}
+
+fn preload_name(w: u32) -> u16
+    ensures { λ r. ⌜ r ≡ preloadName w ⌝ }
+{
+    let write = bit(w, 22);
+    if write == 0 { name::PLD } else { name::PLDW }
+}
+
+fn memory(w: u32) -> Operand
+    ensures { λ r. ⌜ r ≡ memoryOf w ⌝ }
+{
+    Operand::Memory(Mem::base_disp(reg_at(w, RN), disp(w, bits(w, 11, 0)), 1))
+}

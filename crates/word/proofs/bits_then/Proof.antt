@@ -1,0 +1,55 @@
+-- `word::bits_then` meets its contract: sixteen bits at most fit. Assumes nothing.
+use mathlib.Core.Path.{_≡_, _∙_, ap}
+use borrow.Author.Needs.{needs}
+use Prim.Native.Nat.{ℕ, _+_, _-_, _*_, _%_, _^_, _<_, _≤_}
+use native.Mathlib.Nat.{lt-of-lt-of-le}
+use native.Mathlib.Omega.{arith}
+use lib.Pow.{pow-mono}
+use Rattle.word.specs.Field.{field}
+use Rattle.word.specs.Layout.{joined, joined-small}
+use Rattle.word.proofs.One.{shifted-one}
+use Rattle.word.proofs.bits_then.Statement.{statement}
+use Rattle.word.proofs.bits_then.Tie as tie
+
+bits-requires : tie.Need-bits-requires
+bits-requires c κs = search needs
+
+sub-result : tie.Need-sub-result
+sub-result c = search needs
+
+add-result : tie.Need-add-result
+add-result c = search needs
+
+shl-result : tie.Need-shl-result
+shl-result c = search needs
+
+-- the upper bits, moved up, and the whole
+module _ (c : tie.After-bits) where
+  abbrev j : ℕ
+  j = c .before .args .hi - c .before .args .lo + 1
+
+  abbrev k : ℕ
+  k = c .before .args .hi2 - c .before .args .lo2 + 1
+
+  moved : c .bits .result * ((1 * 2 ^ k) % 2 ^ 32) ≡ field (c .before .args .w) (c .before .args .lo) j * 2 ^ k
+  moved = simp (c .bits .ensures, shifted-one k (omega arith))
+
+  within : joined (c .before .args .w) (c .before .args .lo) j (c .before .args .lo2) k < 2 ^ 16
+  within = lt-of-lt-of-le (joined-small _ _ j _ k) (pow-mono {j = 16} (omega arith))
+
+mul-result : tie.Need-mul-result
+mul-result c = record { fits = rw (moved c) (omega (arith, within c)) }
+
+bits-requires-2 : tie.Need-bits-requires-2
+bits-requires-2 c κs = search needs
+
+add-result-2 : tie.Need-add-result-2
+add-result-2 c = record { fits = rw (moved (c .before), c .bits2 .ensures) (omega (arith, within (c .before))) }
+
+returns : tie.Need-returns
+returns c = rw (moved (c .before), c .bits2 .ensures)
+
+pub bits-then-spec : {M : Type 1} → statement M
+bits-then-spec =
+    tie.close
+    (tie.spec bits-requires sub-result add-result shl-result mul-result bits-requires-2 add-result-2 returns)

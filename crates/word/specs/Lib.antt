@@ -1,0 +1,6 @@
+pub mod Bytes
+pub mod Choice
+pub mod Every
+pub mod Field
+pub mod Layout
+pub mod Signed

@@ -1,0 +1,110 @@
+//! The oracle: what the unchanged Rust answers, as lines to read and as digests to compare with.
+
+// The Rust's files take `Addr` from a crate of this name.
+extern crate self as e5r_core;
+
+mod addr;
+mod answer;
+mod bench;
+mod digest;
+mod line;
+mod names;
+mod oracle;
+mod proved;
+mod sweep;
+mod words;
+
+// The Rust's files, with the shims among them: they have more than the oracle calls.
+#[allow(dead_code, unused_imports)]
+mod arm;
+#[allow(dead_code)]
+mod insn;
+
+use std::env;
+use std::io::{self, BufWriter, Write};
+use std::process::ExitCode;
+
+pub use addr::Addr;
+use answer::Answer;
+use line::Line;
+use oracle::Oracle;
+use proved::DIGEST;
+use words::hex;
+
+const USAGE: &str = "\
+modes of the oracle (numbers are hexadecimal; no SET is every word):
+  lines                reads lines of address, tab, word; adds the line of the listing to each
+  answers              reads the same; prints what the program `answers` prints of each
+  count [SET]          counts what the Rust accepts and refuses
+  sweep ADDRESS [SET]  compares the Rust with the proved code, word by word
+  bench                times the Rust and the proved code
+  SET                  FIRST COUNT, or 'branches'";
+
+fn main() -> ExitCode {
+    let arguments: Vec<String> = env::args().skip(1).collect();
+    let arguments: Vec<&str> = arguments.iter().map(String::as_str).collect();
+    match run(&arguments) {
+        Ok(code) => code,
+        Err(why) => {
+            eprintln!("oracle: {why}");
+            ExitCode::from(2)
+        }
+    }
+}
+
+fn run(arguments: &[&str]) -> Result<ExitCode, String> {
+    match arguments {
+        ["lines"] => each_word(lines_line)?,
+        ["answers"] => each_word(answers_line)?,
+        ["count", set @ ..] => println!("{}", sweep::count(&words::set(set)?)),
+        ["sweep", address, set @ ..] => {
+            let proved = DIGEST.ok_or("sweep needs the proved code, which PROVED is to name")?;
+            let (tally, differences) = sweep::sweep(proved, hex(address)?, &words::set(set)?);
+            println!("{tally}\n{differences} differences");
+            if differences != 0 {
+                return Ok(ExitCode::FAILURE);
+            }
+        }
+        ["bench"] => bench::bench(),
+        _ => return Err(USAGE.to_string()),
+    }
+    Ok(ExitCode::SUCCESS)
+}
+
+/// Prints what `spell` makes of each address and word on standard input, and of the answer to it.
+fn each_word(spell: fn(u64, u32, Answer) -> String) -> Result<(), String> {
+    let mut oracle = Oracle::new();
+    let mut out = BufWriter::new(io::stdout().lock());
+    for line in io::stdin().lines() {
+        let line = line.map_err(|why| why.to_string())?;
+        let (address, word) = address_and_word(&line)?;
+        let answer = oracle.answer(word, address);
+        writeln!(out, "{}", spell(address, word, answer)).map_err(|why| why.to_string())?;
+    }
+    out.flush().map_err(|why| why.to_string())
+}
+
+fn lines_line(address: u64, word: u32, answer: Answer) -> String {
+    let line = Line {
+        address,
+        word,
+        answer,
+    };
+    format!("{address:016x}\t{word:08x}\t{line}")
+}
+
+fn answers_line(address: u64, word: u32, answer: Answer) -> String {
+    let digest = digest::fold(digest::START, &answer);
+    let [refusal, name, condition, flow] = answer.heads();
+    format!("{address:016x} {word:08x} {refusal} {name} {condition} {flow} {digest}")
+}
+
+fn address_and_word(line: &str) -> Result<(u64, u32), String> {
+    let mut fields = line.split('\t');
+    let (Some(address), Some(word)) = (fields.next(), fields.next()) else {
+        return Err(format!("'{line}' is not an address, a tab and a word"));
+    };
+    let word = hex(word)?.try_into();
+    let word = word.map_err(|_| format!("'{line}' has more than a word"))?;
+    Ok((hex(address)?, word))
+}
