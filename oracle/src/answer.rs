@@ -104,7 +104,12 @@ impl Answer {
             Answer::Refused(refusal) => [u64::from(*refusal), 0, 0, 0],
             Answer::Accepted(instruction) => {
                 let [flow, _] = instruction.flow.numbers();
-                [0, instruction.name.into(), instruction.condition.into(), flow]
+                [
+                    0,
+                    instruction.name.into(),
+                    instruction.condition.into(),
+                    flow,
+                ]
             }
         }
     }

@@ -109,7 +109,7 @@ fn plain(w: u32, addr: u64) -> Decoded
 }
 
 /// A compare that would set no flags.
-fn is_control(w: u32) -> bool
+pub fn is_control(w: u32) -> bool
     ensures { λ r. ⌜ r ≡ controlOf w ⌝ }
 {
     let op = bits(w, 24, 23);

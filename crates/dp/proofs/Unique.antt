@@ -2,12 +2,16 @@
 -- Assumes nothing.
 use mathlib.Core.Path.{_≡_, _∙_, sym}
 use Rattle.dp.proofs.dp_imm.dp_imm.Reads as dp-imm
+use Rattle.dp.proofs.dp_imm.is_hint.Reads as is-hint
 use Rattle.dp.proofs.dp_reg.dp_reg.Reads as dp-reg
 use Rattle.dp.proofs.names.dp_name.Reads as dp-name
 use Rattle.dp.proofs.names.shift_name.Reads as shift-name
 
 pub dp-imm-only : (κs : _) (a : _) (r r′ : _) (s s′ : _) → dp-imm.Post κs a r s → dp-imm.Post κs a r′ s′ → r ≡ r′
 dp-imm-only κs a r r′ s s′ p q = p ∙ sym q
+
+pub is-hint-only : (κs : _) (a : _) (r r′ : _) (s s′ : _) → is-hint.Post κs a r s → is-hint.Post κs a r′ s′ → r ≡ r′
+is-hint-only κs a r r′ s s′ p q = p ∙ sym q
 
 pub dp-reg-only : (κs : _) (a : _) (r r′ : _) (s s′ : _) → dp-reg.Post κs a r s → dp-reg.Post κs a r′ s′ → r ≡ r′
 dp-reg-only κs a r r′ s s′ p q = p ∙ sym q

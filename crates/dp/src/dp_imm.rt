@@ -53,7 +53,7 @@ fn msr_hint(w: u32, addr: u64) -> Decoded
 }
 
 /// An `msr` that writes nothing is a hint.
-fn is_hint(w: u32) -> bool
+pub fn is_hint(w: u32) -> bool
     ensures { λ r. ⌜ r ≡ hintSlot w ⌝ }
 {
     let rn = bits(w, 19, 16);

@@ -1,0 +1,54 @@
+-- The immediates, back from their counts: one test over all 4,096 fields. Assumes nothing.
+use mathlib.Core.Path.{_≡_, refl, _∙_, ap, sym, subst}
+use mathlib.Core.Bool.{Bool, true, false, not}
+use Prim.Native.Nat.{ℕ, zero, suc, _+_, _-_, _*_, _/_, _%_, _^_, _<_, _≤_}
+use native.Mathlib.Omega.{arith}
+use borrow.Author.Tests.{ltb-true, ltb-false}
+use lib.Dec.{T, eqb, ltb, eqb→eq}
+use lib.IntN.{ℤ, pos}
+use Rattle.word.specs.Choice.{pick, both, by-test}
+use Rattle.word.specs.Every.{at-each}
+use Rattle.word.specs.Field.{field, small}
+use Rattle.word.specs.Signed.{minus, signed}
+use Rattle.imm.specs.Closed.{value-fits}
+use Rattle.imm.specs.Imm.{byteOf, rotationOf, soImmOf, leastOf, countOf}
+use Rattle.home.specs.Parts.{bits32}
+use Rattle.home.specs.WordDp.{leastFrom}
+
+-- where the first test passes, so does the second
+abbrev implies : Bool → Bool → Bool
+implies true b = b
+implies false b = true
+
+implied : (a b : Bool) → a ≡ true → T (implies a b) → T b
+implied true b e t = t
+implied false b e t = absurd (subst (λ (x : Bool). T (not x)) e tt)
+
+module _ (x : ℕ) (few : x < 4096) where
+  least-back : leastOf x ≡ true → leastFrom 16 0 (soImmOf x) ≡ x
+  unfolding field soImmOf leastOf
+  least-back least =
+      eqb→eq (leastFrom 16 0 (soImmOf x)) x
+      (implied (leastOf x) _ least (at-each (λ n. implies (leastOf n) (eqb (leastFrom 16 0 (soImmOf n)) n)) 4096 tt x few))
+
+  pub imm-two : 256 * (2 * rotationOf x / 2) + byteOf x ≡ x
+  unfolding field
+  imm-two = eqb→eq (256 * (2 * rotationOf x / 2) + byteOf x) x (at-each (λ n. eqb (256 * (2 * rotationOf n / 2) + byteOf n) n) 4096 tt x few)
+
+  -- a count of 32 bits, with a sign or without
+  minus-back : (n : ℕ) → 0 < n → n ≤ 2 ^ 32 → bits32 (minus n) ≡ 2 ^ 32 - n
+  minus-back zero some most = absurd (omega arith)
+  minus-back (suc n) some most = refl
+
+  count-back : (unsigned : Bool) (v : ℕ) → v < 2 ^ 32 → bits32 (countOf unsigned v) ≡ v
+  count-back true v fits = refl
+  count-back false v fits =
+      by-test (ltb v (2 ^ 31))
+      (λ e. simp e)
+      (λ e. simp e (minus-back (2 ^ 32 - v) (omega arith) (omega arith) ∙ back))
+    where
+      back : 2 ^ 32 - (2 ^ 32 - v) ≡ v
+      back = omega arith
+
+  pub imm-one : (unsigned : Bool) → leastOf x ≡ true → leastFrom 16 0 (bits32 (countOf unsigned (soImmOf x))) ≡ x
+  imm-one unsigned least = rw (count-back unsigned (soImmOf x) (value-fits x few)) (least-back least)

@@ -1,0 +1,202 @@
+-- The home word of a word, group by group. Assumes nothing.
+use mathlib.Core.Path.{_≡_, refl, sym, ap, _∙_, subst}
+use mathlib.Core.Bool.{Bool, true, false, not}
+use Prim.Native.Nat.{ℕ, _+_}
+use native.Mathlib.Omega.{arith}
+use borrow.Author.Tests.{lt-ltb, ltb-true, ne-eqb}
+use lib.Dec.{eqb, leb, ltb}
+use Rattle.word.specs.Choice.{pick, both}
+use Rattle.word.specs.Field.{field, clear, put-above, put-below, splits}
+use Rattle.dp.specs.DpImm.{hintSlot}
+use Rattle.a32.specs.Decode.{controlOf}
+use Rattle.home.specs.Table.{ignored}
+use Rattle.home.specs.Home.{clearAll, controlRow, moveRow, dpRegRow, extraRow, plainRow, dpMiscRow, dpImmRow, mediaRow, rowOf, raisesOf, raised, homeOf}
+use Rattle.home.proofs.Leads.{split, bit-cases}
+
+-- a test whose second half fails
+fails : (b : Bool) → both b false ≡ false
+fails true = refl
+fails false = refl
+
+module _ (w : ℕ) where
+  pub blx-home : field w 28 4 ≡ 15 → field w 25 3 ≡ 5 → homeOf w ≡ w
+  unfolding homeOf rowOf raisesOf
+  blx-home c g = simp (c, g, fails)
+
+  preload-row : field w 28 4 ≡ 15 → eqb (field w 25 3) 5 ≡ false → clearAll (ignored (rowOf w)) w ≡ clear w 20 2
+  unfolding rowOf
+  preload-row c g = simp (c, g)
+
+  pub preload-home : field w 28 4 ≡ 15 → eqb (field w 25 3) 5 ≡ false → homeOf w ≡ raised (raisesOf w) (clear w 20 2)
+  unfolding homeOf
+  preload-home c g = ap (raised (raisesOf w)) (preload-row c g)
+
+  module _ (c : eqb (field w 28 4) 15 ≡ false) where
+    module _ (g : field w 25 3 ≡ 0) where
+      pub misc-home : controlOf w ≡ true → field w 7 1 ≡ 0 → homeOf w ≡ clearAll (ignored (controlRow w)) w
+      unfolding homeOf rowOf raisesOf dpMiscRow plainRow
+      misc-home control seven = bit-cases w 4 (λ four. simp (c, g, fails, control, four, seven)) (λ four. simp (c, g, fails, control, four, seven))
+
+      pub halves-home : controlOf w ≡ true → field w 4 1 ≡ 0 → homeOf w ≡ clearAll (ignored (controlRow w)) w
+      unfolding homeOf rowOf raisesOf dpMiscRow plainRow
+      halves-home control four = simp (c, g, fails, control, four)
+
+      pub dp-amount-home : controlOf w ≡ false → field w 4 1 ≡ 0 → homeOf w ≡ clearAll (ignored (dpRegRow w)) w
+      unfolding homeOf rowOf raisesOf dpMiscRow plainRow
+      dp-amount-home control four = simp (c, g, fails, control, four)
+
+      pub dp-register-home : controlOf w ≡ false → field w 4 1 ≡ 1 → field w 7 1 ≡ 0 → homeOf w ≡ clearAll (ignored (dpRegRow w)) w
+      unfolding homeOf rowOf raisesOf dpMiscRow plainRow
+      dp-register-home control four seven = simp (c, g, fails, control, four, seven)
+
+      pub extra-home : field w 4 1 ≡ 1 → field w 7 1 ≡ 1 → homeOf w ≡ clearAll (ignored (extraRow w)) w
+      unfolding homeOf rowOf raisesOf dpMiscRow
+      extra-home four seven = simp (c, g, fails, four, seven)
+
+    pub dp-imm-home : field w 25 3 ≡ 1 → homeOf w ≡ clearAll (ignored (dpImmRow w)) w
+    unfolding homeOf rowOf raisesOf
+    dp-imm-home g = simp (c, g, fails)
+
+    ldst-row : field w 25 3 ≡ 2 → clearAll (ignored (rowOf w)) w ≡ w
+    unfolding rowOf
+    ldst-row g = simp (c, g)
+
+    pub ldst-home : field w 25 3 ≡ 2 → homeOf w ≡ raised (raisesOf w) w
+    unfolding homeOf
+    ldst-home g = ap (raised (raisesOf w)) (ldst-row g)
+
+    pub ldst-index-home : field w 25 3 ≡ 3 → field w 4 1 ≡ 0 → homeOf w ≡ raised (raisesOf w) w
+    unfolding homeOf rowOf
+    ldst-index-home g four = ap (raised (raisesOf w)) (simp (c, g, four))
+
+    pub media-home : field w 25 3 ≡ 3 → field w 4 1 ≡ 1 → homeOf w ≡ clearAll (ignored (mediaRow w)) w
+    unfolding homeOf rowOf raisesOf
+    media-home g four = simp (c, g, fails, four)
+
+    pub block-home : field w 25 3 ≡ 4 → homeOf w ≡ w
+    unfolding homeOf rowOf raisesOf
+    block-home g = simp (c, g, fails)
+
+    pub branch-home : field w 25 3 ≡ 5 → homeOf w ≡ w
+    unfolding homeOf rowOf raisesOf
+    branch-home g = simp (c, g, fails)
+
+-- every row of a group is in the table, and those of data processing ignore nothing at 20
+module _ (w : ℕ) where
+  pub control-below : ltb (controlRow w) 15 ≡ true
+  unfolding controlRow
+  control-below =
+      split (eqb (field w 4 3) 0) (λ e. bit-cases w 21 (λ b. simp (e, b)) (λ b. simp (e, b))) λ n0.
+      split (eqb (field w 4 3) 1) (λ e. split (eqb (field w 21 2) 1) (λ b. simp (n0, e, b)) (λ b. simp (n0, e, b))) λ n1.
+      split (eqb (field w 4 3) 2) (λ e. simp (n0, n1, e)) λ n2.
+      split (eqb (field w 4 3) 3) (λ e. simp (n0, n1, n2, e)) λ n3.
+      split (eqb (field w 4 3) 5) (λ e. simp (n0, n1, n2, n3, e)) (λ e. simp (n0, n1, n2, n3, e))
+
+  move-below : ltb (moveRow w) 15 ≡ true
+  unfolding moveRow
+  move-below =
+      split (eqb (field w 21 4) 13) (λ e. simp e) λ n13.
+      split (eqb (field w 21 4) 15) (λ e. simp (n13, e)) (λ e. simp (n13, e))
+
+  pub dp-reg-below : ltb (dpRegRow w) 15 ≡ true
+  unfolding dpRegRow
+  dp-reg-below =
+      split (eqb (field w 23 2) 2)
+      (λ e. split (eqb (field w 12 4) 15) (λ b. simp (e, b)) (λ b. simp (e, b)))
+      (λ e. simp e move-below)
+
+  pub extra-below : ltb (extraRow w) 15 ≡ true
+  unfolding extraRow
+  extra-below =
+      split (eqb (field w 5 2) 0)
+      (λ e.
+      bit-cases w 24
+      (λ x. split (eqb (field w 21 3) 0) (λ m. simp (e, x, m)) (λ m. simp (e, x, m)))
+      (λ x. bit-cases w 20 (λ m. simp (e, x, m)) (λ m. simp (e, x, m))))
+      (λ e. bit-cases w 22 (λ m. simp (e, m)) (λ m. simp (e, m)))
+
+  pub dp-imm-below : ltb (dpImmRow w) 15 ≡ true
+  unfolding dpImmRow
+  dp-imm-below =
+      split (eqb (field w 20 5) 16) (λ e. simp e) λ n16.
+      split (eqb (field w 20 5) 20) (λ e. simp (n16, e)) λ n20.
+      split (eqb (field w 20 5) 18) (λ e. split (hintSlot w) (λ b. simp (n16, n20, e, b)) (λ b. simp (n16, n20, e, b))) λ n18.
+      split (eqb (field w 20 5) 22) (λ e. simp (n16, n20, n18, e)) λ n22.
+      split (eqb (field w 23 2) 2) (λ e. simp (n16, n20, n18, n22, e)) (λ e. simp (n16, n20, n18, n22, e) move-below)
+
+  pub media-below : ltb (mediaRow w) 17 ≡ true
+  unfolding mediaRow
+  media-below =
+      split (eqb (field w 20 5) 17) (λ e. simp e) λ n17.
+      split (eqb (field w 20 5) 19) (λ e. simp (n17, e)) λ n19.
+      split (eqb (field w 4 2) 1)
+      (λ e.
+      split (eqb (field w 21 4) 5) (λ m. simp (n17, n19, e, m)) λ n5.
+      split (eqb (field w 21 4) 7) (λ m. simp (n17, n19, e, n5, m)) (λ m. simp (n17, n19, e, n5, m)))
+      (λ e. simp (n17, n19, e))
+
+-- a row below 15 is below 17
+pub fewer : (row : ℕ) → ltb row 15 ≡ true → ltb row 17 ≡ true
+fewer row below = lt-ltb row 17 (omega (arith, ltb-true row 15 below))
+
+-- what setting bit 23 leaves
+module _ (up : Bool) (w : ℕ) where
+  pub raised-above : (lo k : ℕ) → leb 24 lo ≡ true → field (raised up w) lo k ≡ field w lo k
+  raised-above lo k h = split up (λ e. simp (e, put-above w 23 1 1 refl lo k h)) (λ e. simp e)
+
+  pub raised-below : (lo k : ℕ) → leb (lo + k) 23 ≡ true → field (raised up w) lo k ≡ field w lo k
+  raised-below lo k h = split up (λ e. simp (e, put-below w 23 1 1 refl lo k h)) (λ e. simp e)
+
+-- the rows of immediate data processing that stand apart
+module _ (w : ℕ) where
+  pub movw-row : field w 20 5 ≡ 16 → clearAll (ignored (dpImmRow w)) w ≡ w
+  unfolding dpImmRow
+  movw-row op = simp op
+
+  pub movt-row : field w 20 5 ≡ 20 → clearAll (ignored (dpImmRow w)) w ≡ w
+  unfolding dpImmRow
+  movt-row op = simp op
+
+  pub hint-row : field w 20 5 ≡ 18 → hintSlot w ≡ true → clearAll (ignored (dpImmRow w)) w ≡ clear w 8 4
+  unfolding dpImmRow
+  hint-row op hint = simp (op, hint)
+
+  pub msr-low-row : field w 20 5 ≡ 18 → hintSlot w ≡ false → clearAll (ignored (dpImmRow w)) w ≡ clear w 12 4
+  unfolding dpImmRow
+  msr-low-row op plain = simp (op, plain)
+
+  pub msr-high-row : field w 20 5 ≡ 22 → clearAll (ignored (dpImmRow w)) w ≡ clear w 12 4
+  unfolding dpImmRow
+  msr-high-row op = simp op
+
+-- the coprocessors' words are their own home words
+pub coprocessor-home : (w : ℕ) → eqb (field w 28 4) 15 ≡ false → field w 26 2 ≡ 3 → homeOf w ≡ w
+unfolding homeOf rowOf raisesOf
+coprocessor-home w c p = simp (c, isnt 0 refl, isnt 1 refl, isnt 2 refl, isnt 3 refl, fails)
+  where
+    isnt : (n : ℕ) → ltb n 6 ≡ true → eqb (field w 25 3) n ≡ false
+    isnt n below = ne-eqb (field w 25 3) n (λ is. omega (arith, ltb-true n 6 below, splits w 25 2 1))
+
+-- every row is in the table
+pub row-below : (w : ℕ) → ltb (rowOf w) 17 ≡ true
+unfolding rowOf dpMiscRow plainRow
+row-below w =
+    split (eqb (field w 28 4) 15)
+    (λ c. split (eqb (field w 25 3) 5) (λ g. simp (c, g)) (λ g. simp (c, g)))
+    (λ c.
+    split (eqb (field w 25 3) 0)
+    (λ g.
+    bit-cases w 4
+    (λ four. simp (c, g, four) plain)
+    (λ four. bit-cases w 7 (λ seven. simp (c, g, four, seven) plain) (λ seven. simp (c, g, four, seven) (fewer (extraRow w) (extra-below w)))))
+    λ n0.
+    split (eqb (field w 25 3) 1) (λ g. simp (c, n0, g) (fewer (dpImmRow w) (dp-imm-below w))) λ n1.
+    split (eqb (field w 25 3) 3)
+    (λ g. bit-cases w 4 (λ four. simp (c, n0, n1, g, four)) (λ four. simp (c, n0, n1, g, four) (media-below w)))
+    (λ g. simp (c, n0, n1, g)))
+  where
+    plain : ltb (pick (controlOf w) (controlRow w) (dpRegRow w)) 17 ≡ true
+    plain =
+        split (controlOf w)
+        (λ e. simp e (fewer (controlRow w) (control-below w)))
+        (λ e. simp e (fewer (dpRegRow w) (dp-reg-below w)))

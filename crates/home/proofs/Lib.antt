@@ -1,0 +1,22 @@
+-- Facts of the crate that belong to no one function.
+pub mod Leads
+pub mod Digits
+pub mod KeepsDp
+pub mod BackImm
+pub mod BackDpReg
+pub mod BackDpImm
+pub mod BackMisc
+pub mod BackMultiply
+pub mod BackSync
+pub mod BackExtra
+pub mod BackLdst
+pub mod BackMedia
+pub mod BackBlock
+pub mod BackBranch
+pub mod BackUnconditional
+pub mod Rows
+pub mod Ways
+pub mod Homes
+pub mod Same
+pub mod Laid
+pub mod Unique

@@ -1,0 +1,318 @@
+-- Demand 3: a home word has its word's answer, an answer leads back to its home word, and so two words have one answer
+-- exactly if they have one home word. Assumes nothing.
+use mathlib.Core.Path.{_≡_, refl, sym, ap, _∙_, subst}
+use mathlib.Core.Bool.{Bool, true, false, not}
+use mathlib.Core.Logic.{_↔_}
+use Prim.Native.Nat.{ℕ, _^_, _<_}
+use native.Mathlib.Nat.{lt-of-le-of-lt}
+use native.Mathlib.Omega.{arith}
+use borrow.Author.Tests.{eqb-true, eqb-false}
+use lib.Dec.{T, eqb, ltb}
+use Rattle.word.specs.Choice.{pick, both}
+use Rattle.word.specs.Field.{field, clear, put, small, splits}
+use Rattle.insn.specs.Name.{MSR, BLX}
+use Rattle.insn.specs.declared.Decoded.{Decoded}
+use Rattle.insn.specs.declared.Insn.{Insn}
+use Rattle.dp.specs.DpImm.{dpImmOf, hintSlot}
+use Rattle.dp.specs.DpReg.{dpRegOf}
+use Rattle.misc.specs.Misc.{miscOf}
+use Rattle.ldst.specs.Ldst.{ldstOf}
+use Rattle.media.specs.Media.{mediaOf}
+use Rattle.transfer.specs.Block.{blockOf}
+use Rattle.transfer.specs.Branch.{branchOf}
+use Rattle.transfer.specs.Unconditional.{unconditionalOf, blxOf}
+use Rattle.insn.specs.Answer.{accepted, refused}
+use Rattle.a32.specs.Decode.{decodeOf, controlOf, extraOf}
+use Rattle.home.specs.Table.{ignored}
+use Rattle.home.specs.Home.{clearAll, controlRow, dpRegRow, extraRow, dpImmRow, mediaRow, rowOf, raisesOf, raised, homeOf}
+use Rattle.home.specs.Parts.{place, isAddress, isCount}
+use Rattle.home.specs.Word.{wordOf, statusWord}
+use Rattle.home.specs.WordDp.{dpWord, wideWord, msrImmediateWord}
+use Rattle.home.specs.WordMisc.{miscWord}
+use Rattle.home.specs.WordExtra.{extraWord}
+use Rattle.home.specs.WordLdst.{ldstWord}
+use Rattle.home.specs.WordMedia.{mediaWord}
+use Rattle.home.specs.WordTransfer.{blockWord, preloadWord}
+use Rattle.home.proofs.BackBlock.{block-leads}
+use Rattle.home.proofs.BackBranch.{branch-leads, blx-leads}
+use Rattle.home.proofs.BackDpImm.{movw-leads, movt-leads, hint-leads, Msr, msr-low, msr-high, operation-leads}
+use Rattle.home.proofs.BackDpReg.{dp-reg-amount, dp-reg-register}
+use Rattle.home.proofs.BackExtra.{extra-keeps, extra-leads}
+use Rattle.home.proofs.BackLdst.{ldst-keeps, ldst-leads}
+use Rattle.home.proofs.BackMedia.{media-keeps, media-leads}
+use Rattle.home.proofs.BackMisc.{misc-keeps, misc-leads, misc-second}
+use Rattle.home.proofs.BackUnconditional.{preload-keeps, preload-leads}
+use Rattle.home.proofs.Homes as H
+use Rattle.home.proofs.KeepsDp.{dp-reg-keeps, dp-imm-keeps}
+use Rattle.home.proofs.Leads.{apart, Leads, inside, split, bit-cases, two-cases, refusal}
+use Rattle.home.proofs.Rows.{clearAll-le, keeps-cond, keeps-group, keeps-4, keeps-7, keeps-24-23, keeps-20}
+use Rattle.home.proofs.Ways as Ways
+
+parts : (a b : Bool) → both a b ≡ true → (a ≡ true) × (b ≡ true)
+parts true b e = (refl, e)
+parts false b e = absurd (subst (λ (x : Bool). T (not x)) e tt)
+
+-- an answer that leads back under a name of its group
+by-leads : {word : Insn → ℕ} (lo hi h : ℕ) (d : Decoded) → Leads word lo hi h d
+    → ((i : Insn) → isAddress (place i 0) ≡ false → inside lo hi (i .name) ≡ true → wordOf i ≡ word i)
+    → d .refusal ≡ 0 → wordOf (d .insn) ≡ h
+by-leads lo hi h d leads named ok = named (d .insn) (leads ok .2) (leads ok .1) ∙ leads ok .0
+
+module _ (w addr : ℕ) (bound : w < 2 ^ 32) where
+  abbrev Settled : Type 0
+  Settled =
+      (decodeOf (homeOf w) addr ≡ decodeOf w addr)
+      × ((decodeOf w addr) .refusal ≡ 0 → wordOf ((decodeOf w addr) .insn) ≡ homeOf w)
+
+  settle : (h : ℕ) (d : Decoded) → homeOf w ≡ h → decodeOf w addr ≡ d → decodeOf h addr ≡ d → (d .refusal ≡ 0 → wordOf (d .insn) ≡ h) → Settled
+  settle h d is here there back = (
+    ap (λ (x : ℕ). decodeOf x addr) is ∙ there ∙ sym here,
+    λ ok. ap (λ (x : Decoded). wordOf (x .insn)) here ∙ back (subst (λ (x : Decoded). x .refusal ≡ 0) here ok) ∙ sym is,
+  )
+
+  -- condition 15
+  second : field w 28 4 ≡ 15 → Settled
+  second c =
+      split (eqb (field w 25 3) 5)
+      (λ e. blx (eqb-true _ 5 e))
+      (λ g.
+      settle (raised (raisesOf w) (clear w 20 2)) (unconditionalOf w addr) (H.preload-home w c g) (Ways.to-unconditional w addr c)
+      (Ways.to-unconditional (raised (raisesOf w) (clear w 20 2)) addr still ∙ preload-keeps w addr c g)
+      (by-leads 127 128 _ (unconditionalOf w addr) (preload-leads w addr bound c g) Ways.named-preload))
+    where
+      still : field (raised (raisesOf w) (clear w 20 2)) 28 4 ≡ 15
+      still = H.raised-above (raisesOf w) (clear w 20 2) 28 4 refl ∙ simp (apart, c)
+
+      blx : field w 25 3 ≡ 5 → Settled
+      blx g = settle w (blxOf w addr) (H.blx-home w c g) here here back
+        where
+          here : decodeOf w addr ≡ blxOf w addr
+          here = Ways.to-unconditional w addr c ∙ simp g
+
+          back : (blxOf w addr) .refusal ≡ 0 → wordOf ((blxOf w addr) .insn) ≡ w
+          back ok = Ways.named-blx _ (blx-leads w addr bound g c .1) (blx-leads w addr bound g c .2) ∙ blx-leads w addr bound g c .0
+
+  -- a condition below 15, by 27:25
+  module _ (c : eqb (field w 28 4) 15 ≡ false) where
+    -- what a row's home word keeps of the tests on the way
+    module _ (row : ℕ) (below : ltb row 17 ≡ true) where
+      abbrev h : ℕ
+      h = clearAll (ignored row) w
+
+      still-c : eqb (field h 28 4) 15 ≡ false
+      still-c = rw (keeps-cond row w below) c
+
+      still-g : {n : ℕ} → field w 25 3 ≡ n → field h 25 3 ≡ n
+      still-g g = keeps-group row w below ∙ g
+
+      still-4 : {n : ℕ} → field w 4 1 ≡ n → field h 4 1 ≡ n
+      still-4 four = keeps-4 row w below ∙ four
+
+      still-7 : {n : ℕ} → field w 7 1 ≡ n → field h 7 1 ≡ n
+      still-7 seven = keeps-7 row w below ∙ seven
+
+    still-control : (row : ℕ) → ltb row 15 ≡ true → {b : Bool} → controlOf w ≡ b → controlOf (clearAll (ignored row) w) ≡ b
+    unfolding controlOf
+    still-control row below is = rw (keeps-24-23 row w (H.fewer row below), keeps-20 row w below) is
+
+    module _ (g : field w 25 3 ≡ 0) where
+      extra : field w 4 1 ≡ 1 → field w 7 1 ≡ 1 → Settled
+      extra four seven =
+          settle (clearAll (ignored (extraRow w)) w) (extraOf w addr) (H.extra-home w c g four seven) (Ways.to-extra w addr c g four seven)
+          (Ways.to-extra (clearAll (ignored (extraRow w)) w) addr (still-c (extraRow w) below) (still-g (extraRow w) below g) (still-4 (extraRow w) below four) (still-7 (extraRow w) below seven) ∙ extra-keeps w addr g seven four)
+          (by-leads 49 74 _ (extraOf w addr) (extra-leads w addr bound g seven four) Ways.named-extra)
+        where
+          below : ltb (extraRow w) 17 ≡ true
+          below = H.fewer (extraRow w) (H.extra-below w)
+
+      control : controlOf w ≡ true → Settled
+      unfolding controlOf
+      control is =
+          bit-cases w 7
+          (λ seven.
+          settle (clearAll (ignored (controlRow w)) w) (miscOf w addr) (H.misc-home w c g is seven) (Ways.to-misc w addr c g is seven)
+          (Ways.to-misc (clearAll (ignored (controlRow w)) w) addr (still-c (controlRow w) below) (still-g (controlRow w) below g) (still-control (controlRow w) (H.control-below w) is) (still-7 (controlRow w) below seven) ∙ misc-keeps w addr)
+          (λ ok. Ways.named-misc _ (leads seven ok .2) (leads seven ok .1) (misc-second w addr ok) ∙ leads seven ok .0))
+          (λ seven.
+          bit-cases w 4
+          (λ four.
+          settle (clearAll (ignored (controlRow w)) w) (refused 3) (H.halves-home w c g is four) (Ways.control-away w addr c g is four seven)
+          (Ways.control-away (clearAll (ignored (controlRow w)) w) addr (still-c (controlRow w) below) (still-g (controlRow w) below g) (still-control (controlRow w) (H.control-below w) is) (still-4 (controlRow w) below four) (still-7 (controlRow w) below seven))
+          (λ ok. refusal ok))
+          (λ four. extra four seven))
+        where
+          below : ltb (controlRow w) 17 ≡ true
+          below = H.fewer (controlRow w) (H.control-below w)
+
+          leads : field w 7 1 ≡ 0 → Leads miscWord 38 48 (clearAll (ignored (controlRow w)) w) (miscOf w addr)
+          leads seven =
+              misc-leads w addr bound g
+              (eqb-true (field w 23 2) 2 (parts _ (eqb (field w 20 1) 0) is .0))
+              (eqb-true (field w 20 1) 0 (parts (eqb (field w 23 2) 2) _ is .1))
+              seven
+
+      operation : controlOf w ≡ false → Settled
+      operation is =
+          bit-cases w 4
+          (λ four.
+          settle (clearAll (ignored (dpRegRow w)) w) (dpRegOf w addr) (H.dp-amount-home w c g is four) (Ways.to-dp-amount w addr c g is four)
+          (Ways.to-dp-amount (clearAll (ignored (dpRegRow w)) w) addr (still-c (dpRegRow w) below) (still-g (dpRegRow w) below g) (still-control (dpRegRow w) (H.dp-reg-below w) is) (still-4 (dpRegRow w) below four) ∙ dp-reg-keeps w addr)
+          (by-leads 0 37 _ (dpRegOf w addr) (dp-reg-amount w addr bound g is four) Ways.named-dp))
+          (λ four.
+          bit-cases w 7
+          (λ seven.
+          settle (clearAll (ignored (dpRegRow w)) w) (dpRegOf w addr) (H.dp-register-home w c g is four seven) (Ways.to-dp-register w addr c g is four seven)
+          (Ways.to-dp-register (clearAll (ignored (dpRegRow w)) w) addr (still-c (dpRegRow w) below) (still-g (dpRegRow w) below g) (still-control (dpRegRow w) (H.dp-reg-below w) is) (still-4 (dpRegRow w) below four) (still-7 (dpRegRow w) below seven) ∙ dp-reg-keeps w addr)
+          (by-leads 0 37 _ (dpRegOf w addr) (dp-reg-register w addr bound g is four seven) Ways.named-dp))
+          (λ seven. extra four seven))
+        where
+          below : ltb (dpRegRow w) 17 ≡ true
+          below = H.fewer (dpRegRow w) (H.dp-reg-below w)
+
+    immediate : field w 25 3 ≡ 1 → Settled
+    immediate g =
+        settle (clearAll (ignored (dpImmRow w)) w) (dpImmOf w addr) (H.dp-imm-home w c g) (Ways.to-dp-imm w addr c g)
+        (Ways.to-dp-imm (clearAll (ignored (dpImmRow w)) w) addr (still-c (dpImmRow w) below) (still-g (dpImmRow w) below g) ∙ dp-imm-keeps w addr)
+        back
+      where
+        below : ltb (dpImmRow w) 17 ≡ true
+        below = H.fewer (dpImmRow w) (H.dp-imm-below w)
+
+        back : (dpImmOf w addr) .refusal ≡ 0 → wordOf ((dpImmOf w addr) .insn) ≡ clearAll (ignored (dpImmRow w)) w
+        back =
+            split (eqb (field w 20 5) 16)
+            (λ e ok. by-leads 75 81 w (dpImmOf w addr) (movw-leads w addr bound g (eqb-true _ 16 e)) Ways.named-wide ok ∙ sym (H.movw-row w (eqb-true _ 16 e)))
+            λ n16.
+            split (eqb (field w 20 5) 20)
+            (λ e ok. by-leads 75 81 w (dpImmOf w addr) (movt-leads w addr bound g (eqb-true _ 20 e)) Ways.named-wide ok ∙ sym (H.movt-row w (eqb-true _ 20 e)))
+            λ n20.
+            split (eqb (field w 20 5) 18) (λ e. status (eqb-true _ 18 e)) λ n18.
+            split (eqb (field w 20 5) 22)
+            (λ e ok. msr (msr-high w addr bound g (eqb-true _ 22 e)) ∙ sym (H.msr-high-row w (eqb-true _ 22 e)))
+            (λ n22. by-leads 0 37 _ (dpImmOf w addr) (operation-leads w addr bound g n16 n20 n18 n22) Ways.named-dp)
+          where
+            msr : Msr w addr bound g (dpImmOf w addr) → wordOf ((dpImmOf w addr) .insn) ≡ clear w 12 4
+            msr back = Ways.named-msr ((dpImmOf w addr) .insn) (back .3) (back .1) (back .2) ∙ back .0
+
+            status : field w 20 5 ≡ 18 → (dpImmOf w addr) .refusal ≡ 0 → wordOf ((dpImmOf w addr) .insn) ≡ clearAll (ignored (dpImmRow w)) w
+            status op =
+                split (hintSlot w)
+                (λ hint ok. by-leads 75 81 (clear w 8 4) (dpImmOf w addr) (hint-leads w addr bound g op hint) Ways.named-wide ok ∙ sym (H.hint-row w op hint))
+                (λ plain ok. msr (msr-low w addr bound g op plain) ∙ sym (H.msr-low-row w op plain))
+
+    -- a word of load/store, and of the groups that ignore nothing
+    transfers : field w 26 2 ≡ 1 → (field w 25 1 ≡ 1 → field w 4 1 ≡ 0) → homeOf w ≡ raised (raisesOf w) w → decodeOf w addr ≡ ldstOf w addr
+        → decodeOf (raised (raisesOf w) w) addr ≡ ldstOf (raised (raisesOf w) w) addr → Settled
+    transfers one four is here there =
+        settle (raised (raisesOf w) w) (ldstOf w addr) is here (there ∙ ldst-keeps w addr c)
+        (by-leads 82 89 _ (ldstOf w addr) (ldst-leads w addr bound c one four) Ways.named-ldst)
+
+    raised-c : eqb (field (raised (raisesOf w) w) 28 4) 15 ≡ false
+    raised-c = rw (H.raised-above (raisesOf w) w 28 4 refl) c
+
+    raised-g : {n : ℕ} → field w 25 3 ≡ n → field (raised (raisesOf w) w) 25 3 ≡ n
+    raised-g g = H.raised-above (raisesOf w) w 25 3 refl ∙ g
+
+    raised-4 : {n : ℕ} → field w 4 1 ≡ n → field (raised (raisesOf w) w) 4 1 ≡ n
+    raised-4 four = H.raised-below (raisesOf w) w 4 1 refl ∙ four
+
+    memory : field w 25 3 ≡ 2 → Settled
+    memory g =
+        transfers (Ways.top w 2 1 g (omega arith) (omega arith)) (λ set. absurd (eqb-false 0 1 refl (sym clear-25 ∙ set))) (H.ldst-home w c g) (Ways.to-ldst w addr c g)
+        (Ways.to-ldst (raised (raisesOf w) w) addr raised-c (raised-g g))
+      where
+        clear-25 : field w 25 1 ≡ 0
+        clear-25 = omega (arith, splits w 25 2 1, small w 25 1)
+
+    indexed : field w 25 3 ≡ 3 → Settled
+    indexed g =
+        bit-cases w 4
+        (λ four.
+        transfers (Ways.top w 3 1 g (omega arith) (omega arith)) (λ set. four) (H.ldst-index-home w c g four) (Ways.to-ldst-index w addr c g four)
+        (Ways.to-ldst-index (raised (raisesOf w) w) addr raised-c (raised-g g) (raised-4 four)))
+        (λ four.
+        settle (clearAll (ignored (mediaRow w)) w) (mediaOf w addr) (H.media-home w c g four) (Ways.to-media w addr c g four)
+        (Ways.to-media (clearAll (ignored (mediaRow w)) w) addr (still-c (mediaRow w) (H.media-below w)) (still-g (mediaRow w) (H.media-below w) g) (still-4 (mediaRow w) (H.media-below w) four) ∙ media-keeps w addr g four)
+        (by-leads 90 114 _ (mediaOf w addr) (media-leads w addr bound g four) Ways.named-media))
+
+    multiple : field w 25 3 ≡ 4 → Settled
+    multiple g =
+        settle w (blockOf w addr) (H.block-home w c g) (Ways.to-block w addr c g) (Ways.to-block w addr c g)
+        (by-leads 115 124 w (blockOf w addr) (block-leads w addr bound g) Ways.named-block)
+
+    branches : field w 25 3 ≡ 5 → Settled
+    branches g = settle w (branchOf w addr) (H.branch-home w c g) (Ways.to-branch w addr c g) (Ways.to-branch w addr c g) back
+      where
+        back : (branchOf w addr) .refusal ≡ 0 → wordOf ((branchOf w addr) .insn) ≡ w
+        back ok =
+            Ways.named-branch ((branchOf w addr) .insn) (branch-leads w addr bound g c ok .1) (branch-leads w addr bound g c ok .2)
+            ∙ branch-leads w addr bound g c ok .0
+
+    coprocessor : field w 26 2 ≡ 3 → Settled
+    coprocessor p =
+        settle w (refused 2) (H.coprocessor-home w c p) (Ways.to-coprocessor w addr c p) (Ways.to-coprocessor w addr c p) (λ ok. refusal ok)
+
+    first : Settled
+    first =
+        split (eqb (field w 25 3) 0) (λ e. split (controlOf w) (control (eqb-true _ 0 e)) (operation (eqb-true _ 0 e))) λ n0.
+        split (eqb (field w 25 3) 1) (λ e. immediate (eqb-true _ 1 e)) λ n1.
+        split (eqb (field w 25 3) 2) (λ e. memory (eqb-true _ 2 e)) λ n2.
+        split (eqb (field w 25 3) 3) (λ e. indexed (eqb-true _ 3 e)) λ n3.
+        split (eqb (field w 25 3) 4) (λ e. multiple (eqb-true _ 4 e)) λ n4.
+        split (eqb (field w 25 3) 5) (λ e. branches (eqb-true _ 5 e)) λ n5.
+        coprocessor (above (eqb-false _ 0 n0) (eqb-false _ 1 n1) (eqb-false _ 2 n2) (eqb-false _ 3 n3) (eqb-false _ 4 n4) (eqb-false _ 5 n5))
+      where
+        above : (field w 25 3 ≡ 0 → ⊥) → (field w 25 3 ≡ 1 → ⊥) → (field w 25 3 ≡ 2 → ⊥) → (field w 25 3 ≡ 3 → ⊥) → (field w 25 3 ≡ 4 → ⊥)
+            → (field w 25 3 ≡ 5 → ⊥) → field w 26 2 ≡ 3
+        above n0 n1 n2 n3 n4 n5 = omega (arith, splits w 25 2 1, small w 25 1, small w 25 3)
+
+  settled : Settled
+  settled = split (eqb (field w 28 4) 15) (λ e. second (eqb-true _ 15 e)) first
+
+-- the home word of a word has the word's answer
+pub home-decodes : (w addr : ℕ) → w < 2 ^ 32 → decodeOf (homeOf w) addr ≡ decodeOf w addr
+home-decodes w addr bound = settled w addr bound .0
+
+-- an accepted answer leads back to the home word
+pub leads-home : (w addr : ℕ) → w < 2 ^ 32 → (decodeOf w addr) .refusal ≡ 0 → wordOf ((decodeOf w addr) .insn) ≡ homeOf w
+leads-home w addr bound = settled w addr bound .1
+
+-- "At one address two accepted words get equal answers exactly when 01's table of ignored bits gives them the same home word."
+pub same-answer : (w w′ addr : ℕ) → w < 2 ^ 32 → w′ < 2 ^ 32 → (decodeOf w addr) .refusal ≡ 0 → (decodeOf w′ addr) .refusal ≡ 0
+    → (decodeOf w addr ≡ decodeOf w′ addr) ↔ (homeOf w ≡ homeOf w′)
+same-answer w w′ addr bound bound′ ok ok′ = (one-home, one-answer)
+  where
+    one-home : decodeOf w addr ≡ decodeOf w′ addr → homeOf w ≡ homeOf w′
+    one-home same =
+        sym (leads-home w addr bound ok) ∙ ap (λ (d : Decoded). wordOf (d .insn)) same ∙ leads-home w′ addr bound′ ok′
+
+    one-answer : homeOf w ≡ homeOf w′ → decodeOf w addr ≡ decodeOf w′ addr
+    one-answer same =
+        sym (home-decodes w addr bound) ∙ ap (λ (x : ℕ). decodeOf x addr) same ∙ home-decodes w′ addr bound′
+
+-- a home word is a word
+pub home-small : (w : ℕ) → w < 2 ^ 32 → homeOf w < 2 ^ 32
+unfolding homeOf put
+home-small w bound = split (raisesOf w) (λ e. simp e (up _ cleared)) (λ e. simp e cleared)
+  where
+    cleared : clearAll (ignored (rowOf w)) w < 2 ^ 32
+    cleared = lt-of-le-of-lt (clearAll-le (ignored (rowOf w)) w) bound
+
+    up : (x : ℕ) → x < 2 ^ 32 → put x 23 1 1 < 2 ^ 32
+    up x h = omega arith
+
+-- the home of a home word is itself
+pub home-home : (w addr : ℕ) → w < 2 ^ 32 → (decodeOf w addr) .refusal ≡ 0 → homeOf (homeOf w) ≡ homeOf w
+home-home w addr bound ok =
+    same-answer (homeOf w) w addr (home-small w bound) bound (subst (λ (d : Decoded). d .refusal ≡ 0) (sym (home-decodes w addr bound)) ok) ok
+    .0 (home-decodes w addr bound)
+
+-- where any word has an instruction value for its answer at the value's address, the word that the value leads to has it,
+-- and is that word's home word
+pub leads-back : (i : Insn) (w : ℕ) → w < 2 ^ 32 → decodeOf w (i .addr) ≡ accepted i
+    → (wordOf i ≡ homeOf w) × (decodeOf (wordOf i) (i .addr) ≡ accepted i)
+leads-back i w bound is =
+    (back, ap (λ (x : ℕ). decodeOf x (i .addr)) back ∙ home-decodes w (i .addr) bound ∙ is)
+  where
+    back : wordOf i ≡ homeOf w
+    back = ap (λ (d : Decoded). wordOf (d .insn)) (sym is) ∙ leads-home w (i .addr) bound (ap (λ (d : Decoded). d .refusal) is)

@@ -1,0 +1,159 @@
+-- The group that a word goes to, and the group that a name leads to. Assumes nothing.
+use mathlib.Core.Path.{_≡_, refl, subst, _∙_}
+use mathlib.Core.Bool.{Bool, true, false, not}
+use Prim.Native.Nat.{ℕ, suc, _+_, _*_, _<_, _≤_}
+use native.Mathlib.Omega.{arith}
+use borrow.Author.Tests.{leb-true, ltb-true, lt-leb}
+use lib.Dec.{T, eqb, leb, ltb}
+use Rattle.word.specs.Choice.{pick, both}
+use Rattle.word.specs.Field.{field, small, splits}
+use Rattle.insn.specs.Answer.{refused}
+use Rattle.insn.specs.Name.{MSR, BLX}
+use Rattle.insn.specs.declared.Decoded.{Decoded}
+use Rattle.insn.specs.declared.Insn.{Insn}
+use Rattle.dp.specs.DpReg.{dpRegOf}
+use Rattle.dp.specs.DpImm.{dpImmOf}
+use Rattle.misc.specs.Misc.{miscOf}
+use Rattle.ldst.specs.Ldst.{ldstOf}
+use Rattle.media.specs.Media.{mediaOf}
+use Rattle.transfer.specs.Block.{blockOf}
+use Rattle.transfer.specs.Branch.{branchOf}
+use Rattle.transfer.specs.Unconditional.{unconditionalOf}
+use Rattle.a32.specs.Decode.{decodeOf, groupOf, dpMiscOf, plainOf, extraOf, controlOf}
+use Rattle.home.specs.Parts.{place, isAddress, isCount}
+use Rattle.home.specs.Word.{wordOf, statusWord}
+use Rattle.home.specs.WordDp.{dpWord, wideWord, msrImmediateWord}
+use Rattle.home.specs.WordMisc.{miscWord}
+use Rattle.home.specs.WordExtra.{extraWord}
+use Rattle.home.specs.WordLdst.{ldstWord}
+use Rattle.home.specs.WordMedia.{mediaWord}
+use Rattle.home.specs.WordTransfer.{blockWord, branchWord, blxWord, preloadWord}
+use Rattle.home.proofs.Leads.{inside, bit-cases}
+
+-- 27:26 from 27:25
+pub top : (w g h : ℕ) → field w 25 3 ≡ g → h * 2 ≤ g → g < h * 2 + 2 → field w 26 2 ≡ h
+top w g h is low high = omega (arith, splits w 25 2 1, small w 25 1)
+
+-- the groups of a word
+module _ (w addr : ℕ) where
+  pub to-unconditional : field w 28 4 ≡ 15 → decodeOf w addr ≡ unconditionalOf w addr
+  unfolding decodeOf
+  to-unconditional c = simp c
+
+  module _ (c : eqb (field w 28 4) 15 ≡ false) where
+    pub to-coprocessor : field w 26 2 ≡ 3 → decodeOf w addr ≡ refused 2
+    unfolding decodeOf
+    to-coprocessor p = simp (c, p)
+
+    module _ (g : field w 25 3 ≡ 0) where
+      pub control-away : controlOf w ≡ true → field w 4 1 ≡ 0 → field w 7 1 ≡ 1 → decodeOf w addr ≡ refused 3
+      unfolding decodeOf groupOf dpMiscOf plainOf
+      control-away control four seven = simp (c, top w 0 0 g (omega arith) (omega arith), g, control, four, seven)
+
+      pub to-misc : controlOf w ≡ true → field w 7 1 ≡ 0 → decodeOf w addr ≡ miscOf w addr
+      unfolding decodeOf groupOf dpMiscOf plainOf
+      to-misc control seven =
+          bit-cases w 4
+          (λ four. simp (c, top w 0 0 g (omega arith) (omega arith), g, control, four, seven))
+          (λ four. simp (c, top w 0 0 g (omega arith) (omega arith), g, control, four, seven))
+
+      pub to-dp-amount : controlOf w ≡ false → field w 4 1 ≡ 0 → decodeOf w addr ≡ dpRegOf w addr
+      unfolding decodeOf groupOf dpMiscOf plainOf
+      to-dp-amount control four = simp (c, top w 0 0 g (omega arith) (omega arith), g, control, four)
+
+      pub to-dp-register : controlOf w ≡ false → field w 4 1 ≡ 1 → field w 7 1 ≡ 0 → decodeOf w addr ≡ dpRegOf w addr
+      unfolding decodeOf groupOf dpMiscOf plainOf
+      to-dp-register control four seven = simp (c, top w 0 0 g (omega arith) (omega arith), g, control, four, seven)
+
+      pub to-extra : field w 4 1 ≡ 1 → field w 7 1 ≡ 1 → decodeOf w addr ≡ extraOf w addr
+      unfolding decodeOf groupOf dpMiscOf
+      to-extra four seven = simp (c, top w 0 0 g (omega arith) (omega arith), g, four, seven)
+
+    pub to-dp-imm : field w 25 3 ≡ 1 → decodeOf w addr ≡ dpImmOf w addr
+    unfolding decodeOf groupOf
+    to-dp-imm g = simp (c, top w 1 0 g (omega arith) (omega arith), g)
+
+    pub to-ldst : field w 25 3 ≡ 2 → decodeOf w addr ≡ ldstOf w addr
+    unfolding decodeOf groupOf
+    to-ldst g = simp (c, top w 2 1 g (omega arith) (omega arith), g)
+
+    pub to-ldst-index : field w 25 3 ≡ 3 → field w 4 1 ≡ 0 → decodeOf w addr ≡ ldstOf w addr
+    unfolding decodeOf groupOf
+    to-ldst-index g four = simp (c, top w 3 1 g (omega arith) (omega arith), g, four)
+
+    pub to-media : field w 25 3 ≡ 3 → field w 4 1 ≡ 1 → decodeOf w addr ≡ mediaOf w addr
+    unfolding decodeOf groupOf
+    to-media g four = simp (c, top w 3 1 g (omega arith) (omega arith), g, four)
+
+    pub to-block : field w 25 3 ≡ 4 → decodeOf w addr ≡ blockOf w addr
+    unfolding decodeOf groupOf
+    to-block g = simp (c, top w 4 2 g (omega arith) (omega arith), g)
+
+    pub to-branch : field w 25 3 ≡ 5 → decodeOf w addr ≡ branchOf w addr
+    unfolding decodeOf groupOf
+    to-branch g = simp (c, top w 5 2 g (omega arith) (omega arith), g)
+
+-- a name between two numbers, against another
+parts : (a b : Bool) → both a b ≡ true → (a ≡ true) × (b ≡ true)
+parts true b e = (refl, e)
+parts false b e = absurd (subst (λ (x : Bool). T (not x)) e tt)
+
+beyond : (lo hi n : ℕ) → inside lo hi n ≡ true → (k : ℕ) → ltb k lo ≡ true → leb n k ≡ false
+beyond lo hi n is k less = lt-leb n k (omega (arith, ltb-true k lo less, leb-true lo n (parts (leb lo n) (leb n hi) is .0)))
+
+within : (lo hi n : ℕ) → inside lo hi n ≡ true → leb n hi ≡ true
+within lo hi n is = parts (leb lo n) (leb n hi) is .1
+
+-- the groups of a name
+module _ (i : Insn) (plain : isAddress (place i 0) ≡ false) where
+  pub named-dp : inside 0 37 (i .name) ≡ true → wordOf i ≡ dpWord i
+  unfolding wordOf
+  named-dp is = simp (plain, within 0 37 (i .name) is)
+
+  pub named-status : inside 38 48 (i .name) ≡ true → wordOf i ≡ statusWord i
+  unfolding wordOf
+  named-status is = simp (plain, beyond 38 48 (i .name) is, within 38 48 (i .name) is)
+
+  pub named-extra : inside 49 74 (i .name) ≡ true → wordOf i ≡ extraWord i
+  unfolding wordOf
+  named-extra is = simp (plain, beyond 49 74 (i .name) is, within 49 74 (i .name) is)
+
+  pub named-wide : inside 75 81 (i .name) ≡ true → wordOf i ≡ wideWord i
+  unfolding wordOf
+  named-wide is = simp (plain, beyond 75 81 (i .name) is, within 75 81 (i .name) is)
+
+  pub named-ldst : inside 82 89 (i .name) ≡ true → wordOf i ≡ ldstWord i
+  unfolding wordOf
+  named-ldst is = simp (plain, beyond 82 89 (i .name) is, within 82 89 (i .name) is)
+
+  pub named-media : inside 90 114 (i .name) ≡ true → wordOf i ≡ mediaWord i
+  unfolding wordOf
+  named-media is = simp (plain, beyond 90 114 (i .name) is, within 90 114 (i .name) is)
+
+  pub named-block : inside 115 124 (i .name) ≡ true → wordOf i ≡ blockWord i
+  unfolding wordOf
+  named-block is = simp (plain, beyond 115 124 (i .name) is, within 115 124 (i .name) is)
+
+  pub named-preload : inside 127 128 (i .name) ≡ true → wordOf i ≡ preloadWord i
+  unfolding wordOf
+  named-preload is = simp (plain, beyond 127 128 (i .name) is)
+
+module _ (i : Insn) (goes : isAddress (place i 0) ≡ true) where
+  pub named-blx : i .name ≡ BLX → wordOf i ≡ blxWord i
+  unfolding wordOf
+  named-blx is = simp (goes, is)
+
+  pub named-branch : eqb (i .name) BLX ≡ false → wordOf i ≡ branchWord i
+  unfolding wordOf
+  named-branch is = simp (goes, is)
+
+-- msr: of a register, or of an immediate
+pub named-misc : (i : Insn) → isAddress (place i 0) ≡ false → inside 38 48 (i .name) ≡ true → isCount (place i 1) ≡ false → wordOf i ≡ miscWord i
+named-misc i plain is register = named-status i plain is ∙ simp (register, fails)
+  where
+    fails : (b : Bool) → both b false ≡ false
+    fails true = refl
+    fails false = refl
+
+pub named-msr : (i : Insn) → isAddress (place i 0) ≡ false → i .name ≡ MSR → isCount (place i 1) ≡ true → wordOf i ≡ msrImmediateWord i
+named-msr i plain is immediate = named-status i plain (simp is) ∙ simp (is, immediate)

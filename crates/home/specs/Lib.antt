@@ -1,0 +1,12 @@
+pub mod Table
+pub mod Home
+pub mod Parts
+pub mod WordDp
+pub mod WordMisc
+pub mod WordMultiply
+pub mod WordExtra
+pub mod WordLdst
+pub mod WordMedia
+pub mod WordTransfer
+pub mod Word
+pub mod Cases

@@ -1,0 +1,111 @@
+-- The word of a data processing instruction, from its answer.
+use mathlib.Core.Bool.{Bool, true, false}
+use mathlib.Core.List.{List, [], _∷_}
+use Prim.Native.Nat.{ℕ, zero, suc, _+_, _-_, _*_, _/_, _%_}
+use lib.Dec.{eqb, leb, ltb}
+use lib.ListN.{getD}
+use Rattle.word.specs.Choice.{pick, both}
+use Rattle.word.specs.Layout.{join}
+use Rattle.imm.specs.Imm.{turnedLeft}
+use Rattle.insn.specs.Name.{MOVW, MOVT, NOP, RRX, RRXS, LSL, LSLS}
+use Rattle.insn.specs.declared.Flow.{Flow}
+use Rattle.insn.specs.declared.Flow.the-variants.{Next, Branch, CondBranch, IndirectBranch, Call, IndirectCall, Return, Trap}
+use Rattle.insn.specs.declared.Insn.{Insn}
+use Rattle.insn.specs.declared.Operand.{Operand}
+use Rattle.home.specs.Parts.{place, register, kind, amount, number, isCount, isRegister, isShiftBy}
+
+-- 24:21 and 20 of the names and .. mvns; compares set the flags
+abbrev pub operation : ℕ → ℕ
+operation n = pick (ltb n 16) n (getD (0 ∷ 1 ∷ 2 ∷ 3 ∷ 4 ∷ 5 ∷ 6 ∷ 7 ∷ 12 ∷ 13 ∷ 14 ∷ 15 ∷ []) (n - 16) 0)
+
+abbrev pub setting : ℕ → ℕ
+setting n = pick (ltb n 8) 0 (pick (ltb n 12) 1 (pick (ltb n 16) 0 1))
+
+-- rm 0 ty imm5 rd rn s op 000 cond, from bit 0 up
+abbrev pub byAmount : List ℕ
+byAmount = 4 ∷ 1 ∷ 2 ∷ 5 ∷ 4 ∷ 4 ∷ 1 ∷ 4 ∷ 3 ∷ 4 ∷ []
+
+-- rm 1 ty 0 rs rd rn s op 000 cond
+abbrev pub byRegister : List ℕ
+byRegister = 4 ∷ 1 ∷ 2 ∷ 1 ∷ 4 ∷ 4 ∷ 4 ∷ 1 ∷ 4 ∷ 3 ∷ 4 ∷ []
+
+-- imm12 rd rn s op 001 cond
+abbrev pub byImmediate : List ℕ
+byImmediate = 12 ∷ 4 ∷ 4 ∷ 1 ∷ 4 ∷ 3 ∷ 4 ∷ []
+
+-- the field with the least rotation below r, else at r, that gives v
+abbrev pub leastFrom : ℕ → ℕ → ℕ → ℕ
+leastFrom zero r v = 0
+leastFrom (suc n) r v = pick (ltb (turnedLeft v (2 * r)) 256) (256 * r + turnedLeft v (2 * r)) (leastFrom n (suc r) v)
+
+-- the immediate of one count or two
+abbrev pub imm12 : Operand → Operand → ℕ
+imm12 value turn = pick (isCount turn) (256 * (number turn / 2) + number value) (leastFrom 16 0 (number value))
+
+-- a word of rd, rn, operation and S, with a source that takes one operand or two
+abbrev pub sourced : Insn → ℕ → ℕ → ℕ → ℕ → Operand → Operand → ℕ
+sourced i rd rn op s source by =
+    pick (isCount source)
+    (join byImmediate (imm12 source by ∷ rd ∷ rn ∷ s ∷ op ∷ 1 ∷ i .cond .0 ∷ []))
+    (pick (isShiftBy by)
+    (join byRegister (register source ∷ 1 ∷ kind by ∷ 0 ∷ register by ∷ rd ∷ rn ∷ s ∷ op ∷ 0 ∷ i .cond .0 ∷ []))
+    (join byAmount (register source ∷ 0 ∷ kind source ∷ amount source % 32 ∷ rd ∷ rn ∷ s ∷ op ∷ 0 ∷ i .cond .0 ∷ [])))
+
+abbrev pub isIndirect : Flow → Bool
+isIndirect Next = false
+isIndirect (Branch a) = false
+isIndirect (CondBranch a) = false
+isIndirect IndirectBranch = true
+isIndirect (Call a) = false
+isIndirect IndirectCall = false
+isIndirect Return = false
+isIndirect Trap = false
+
+-- a compare with Rd 15 is one that branches; mov and mvn have no Rn
+abbrev pub operationWord : Insn → ℕ → ℕ → ℕ
+operationWord i op s =
+    pick (both (leb 8 op) (leb op 11))
+    (sourced i (pick (isIndirect (i .flow)) 15 0) (register (place i 0)) op s (place i 1) (place i 2))
+    (pick (eqb op 13)
+    (sourced i (register (place i 0)) 0 op s (place i 1) (place i 2))
+    (pick (eqb op 15)
+    (sourced i (register (place i 0)) 0 op s (place i 1) (place i 2))
+    (sourced i (register (place i 0)) (register (place i 1)) op s (place i 2) (place i 3))))
+
+-- a shift's name: mov of Rm shifted by a count, by a register, or through the carry
+abbrev pub shiftWord : Insn → ℕ → ℕ → ℕ
+shiftWord i ty s =
+    pick (isRegister (place i 2))
+    (join byRegister (register (place i 1) ∷ 1 ∷ ty ∷ 0 ∷ register (place i 2) ∷ register (place i 0) ∷ 0 ∷ s ∷ 13 ∷ 0 ∷ i .cond .0 ∷ []))
+    (join byAmount (register (place i 1) ∷ 0 ∷ ty ∷ number (place i 2) % 32 ∷ register (place i 0) ∷ 0 ∷ s ∷ 13 ∷ 0 ∷ i .cond .0 ∷ []))
+
+-- and .. mvns, lsl .. ror, lsls .. rors, rrxs, rrx
+abbrev pub dpWord : Insn → ℕ
+dpWord i =
+    pick (ltb (i .name) LSL) (operationWord i (operation (i .name)) (setting (i .name)))
+    (pick (ltb (i .name) LSLS) (shiftWord i (i .name - LSL) 0)
+    (pick (ltb (i .name) RRXS) (shiftWord i (i .name - LSLS) 1)
+    (pick (eqb (i .name) RRXS) (shiftWord i 3 1) (shiftWord i 3 0))))
+
+-- imm12 rd imm4 op 001 cond
+abbrev pub wideLayout : List ℕ
+wideLayout = 12 ∷ 4 ∷ 4 ∷ 5 ∷ 3 ∷ 4 ∷ []
+
+-- hint 0000 1111 0000 10010 001 cond
+abbrev pub hintLayout : List ℕ
+hintLayout = 8 ∷ 4 ∷ 4 ∷ 4 ∷ 5 ∷ 3 ∷ 4 ∷ []
+
+-- movt, movw, nop, yield, wfe, wfi, sev
+abbrev pub wideWord : Insn → ℕ
+wideWord i =
+    pick (ltb (i .name) NOP)
+    (join wideLayout (number (place i 1) % 4096 ∷ register (place i 0) ∷ number (place i 1) / 4096 ∷ pick (eqb (i .name) MOVW) 16 20 ∷ 1 ∷ i .cond .0 ∷ []))
+    (join hintLayout ((i .name - NOP) ∷ 0 ∷ 15 ∷ 0 ∷ 18 ∷ 1 ∷ i .cond .0 ∷ []))
+
+-- imm12 rd mask 10 r 10 001 cond
+abbrev pub msrLayout : List ℕ
+msrLayout = 12 ∷ 4 ∷ 4 ∷ 2 ∷ 1 ∷ 2 ∷ 3 ∷ 4 ∷ []
+
+abbrev pub msrImmediateWord : Insn → ℕ
+msrImmediateWord i =
+    join msrLayout (imm12 (place i 1) (place i 2) ∷ 0 ∷ number (place i 0) % 16 ∷ 2 ∷ number (place i 0) / 16 ∷ 2 ∷ 1 ∷ i .cond .0 ∷ [])

@@ -1,0 +1,87 @@
+-- The word of a load or a store, from its answer.
+use mathlib.Core.Bool.{Bool, false}
+use mathlib.Core.List.{List, [], _∷_}
+use Prim.Native.Nat.{ℕ, suc}
+use lib.Dec.{eqb}
+use lib.IntN.{ℤ, pos, negsuc}
+use Rattle.word.specs.Choice.{pick}
+use Rattle.word.specs.Layout.{join}
+use Rattle.insn.specs.Name.{LDR, LDRB, STRB, LDRT, LDRBT, STRT, STRBT}
+use Rattle.insn.specs.declared.AddrMode.{AddrMode}
+use Rattle.insn.specs.declared.AddrMode.the-variants.{Offset, PreIndex, PostIndex}
+use Rattle.insn.specs.declared.Index.{Index}
+use Rattle.insn.specs.declared.Index.the-variants.{Absent, Left}
+use Rattle.insn.specs.declared.Insn.{Insn}
+use Rattle.insn.specs.declared.Mem.{Mem}
+use Rattle.insn.specs.declared.Operand.{Operand}
+use Rattle.insn.specs.declared.Operand.the-variants.{Empty, Register, Shifted, ShiftBy, SaturateShift, Rotate, Count, Number, StatusMask, StatusSource, WriteBack, List as Operand·List, Address, Memory}
+use Rattle.home.specs.Parts.{place, register}
+
+-- the form of an operand that has none
+abbrev pub noMemory : Mem
+noMemory = record { base = record { 0 = 0 }; index = Absent; disp = pos 0; mode = Offset; size = 0; decimal = false; «minus_zero» = false }
+
+-- the memory form of an operand
+abbrev pub memory : Operand → Mem
+memory Empty = noMemory
+memory (Register r) = noMemory
+memory (Shifted r k n) = noMemory
+memory (ShiftBy k r) = noMemory
+memory (SaturateShift k n) = noMemory
+memory (Rotate n) = noMemory
+memory (Count z) = noMemory
+memory (Number n) = noMemory
+memory (StatusMask n) = noMemory
+memory (StatusSource s) = noMemory
+memory (WriteBack r) = noMemory
+memory (Operand·List n) = noMemory
+memory (Address n) = noMemory
+memory (Memory m) = m
+
+-- a displacement without its sign
+unfoldable pub magnitude : ℤ → ℕ
+magnitude (pos n) = n
+magnitude (negsuc n) = suc n
+
+-- U, by the sign or the mark
+unfoldable pub upBit : ℤ → Bool → ℕ
+upBit (pos n) minus-zero = pick minus-zero 0 1
+upBit (negsuc n) minus-zero = 0
+
+-- L, B and whether the name is one of the `t` names
+unfoldable pub loadBit : ℕ → ℕ
+loadBit name = pick (eqb name LDR) 1 (pick (eqb name LDRB) 1 (pick (eqb name LDRT) 1 (pick (eqb name LDRBT) 1 0)))
+
+unfoldable pub byteBit : ℕ → ℕ
+byteBit name = pick (eqb name LDRB) 1 (pick (eqb name STRB) 1 (pick (eqb name LDRBT) 1 (pick (eqb name STRBT) 1 0)))
+
+unfoldable pub userBit : ℕ → ℕ
+userBit name = pick (eqb name LDRT) 1 (pick (eqb name LDRBT) 1 (pick (eqb name STRT) 1 (pick (eqb name STRBT) 1 0)))
+
+-- P, and W by the mode or the name
+unfoldable pub beforeBit : AddrMode → ℕ
+beforeBit Offset = 1
+beforeBit PreIndex = 1
+beforeBit PostIndex = 0
+
+unfoldable pub writeBit : AddrMode → ℕ → ℕ
+writeBit Offset name = 0
+writeBit PreIndex name = 1
+writeBit PostIndex name = userBit name
+
+-- 11:0 rd rn L W B U P 0 01 cond, from bit 0 up
+abbrev pub immediateLayout : List ℕ
+immediateLayout = 12 ∷ 4 ∷ 4 ∷ 1 ∷ 1 ∷ 1 ∷ 1 ∷ 1 ∷ 1 ∷ 2 ∷ 4 ∷ []
+
+-- rm 0 00 shift rd rn L W B 1 P 1 01 cond, from bit 0 up
+abbrev pub indexLayout : List ℕ
+indexLayout = 4 ∷ 1 ∷ 2 ∷ 5 ∷ 4 ∷ 4 ∷ 1 ∷ 1 ∷ 1 ∷ 1 ∷ 1 ∷ 1 ∷ 2 ∷ 4 ∷ []
+
+abbrev pub byIndex : Index → Insn → Mem → ℕ
+byIndex Absent i m =
+    join immediateLayout (magnitude (m .disp) ∷ register (place i 0) ∷ m .base .0 ∷ loadBit (i .name) ∷ writeBit (m .mode) (i .name) ∷ byteBit (i .name) ∷ upBit (m .disp) (m .«minus_zero») ∷ beforeBit (m .mode) ∷ 0 ∷ 1 ∷ i .cond .0 ∷ [])
+byIndex (Left r n) i m =
+    join indexLayout (r .0 ∷ 0 ∷ 0 ∷ n ∷ register (place i 0) ∷ m .base .0 ∷ loadBit (i .name) ∷ writeBit (m .mode) (i .name) ∷ byteBit (i .name) ∷ 1 ∷ beforeBit (m .mode) ∷ 1 ∷ 1 ∷ i .cond .0 ∷ [])
+
+abbrev pub ldstWord : Insn → ℕ
+ldstWord i = byIndex (memory (place i 1) .index) i (memory (place i 1))

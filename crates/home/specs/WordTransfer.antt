@@ -1,0 +1,114 @@
+-- The word of a block transfer, a branch, an unconditional blx or a preload, from its answer.
+use mathlib.Core.List.{List, [], _∷_}
+use Prim.Native.Nat.{ℕ, _+_, _-_, _/_, _%_, _^_}
+use lib.Dec.{eqb}
+use lib.IntN.{ℤ, pos, negsuc, natAbs}
+use Rattle.word.specs.Choice.{pick}
+use Rattle.word.specs.Layout.{join}
+use Rattle.insn.specs.Name.{LDMDA, LDM, LDMDB, LDMIB, STMDA, STM, STMDB, POP, PUSH, BL, PLDW}
+use Rattle.insn.specs.declared.Insn.{Insn}
+use Rattle.insn.specs.declared.Operand.{Operand}
+use Rattle.insn.specs.declared.Operand.the-variants.{Empty, Register, Shifted, ShiftBy, SaturateShift, Rotate, Count, Number, StatusMask, StatusSource, WriteBack, List as Operand·List, Address, Memory}
+use Rattle.home.specs.Parts.{place, register, number, isWriteBack}
+
+-- list rn L W 0 PU 100 cond, from bit 0 up
+abbrev pub blockLayout : List ℕ
+blockLayout = 16 ∷ 4 ∷ 1 ∷ 1 ∷ 1 ∷ 2 ∷ 3 ∷ 4 ∷ []
+
+abbrev pub laidBlock : Insn → ℕ → ℕ → ℕ → ℕ → ℕ → ℕ
+laidBlock i list rn l wb kind = join blockLayout (list ∷ rn ∷ l ∷ wb ∷ 0 ∷ kind ∷ 4 ∷ i .cond .0 ∷ [])
+
+-- the base at place 0, the list at place 1
+abbrev pub multiple : Insn → ℕ → ℕ → ℕ
+multiple i l kind =
+    laidBlock i (number (place i 1)) (register (place i 0)) l (pick (isWriteBack (place i 0)) 1 0) kind
+
+abbrev pub blockWord : Insn → ℕ
+blockWord i =
+    pick (eqb (i .name) POP) (laidBlock i (number (place i 0)) 13 1 1 1)
+    (pick (eqb (i .name) PUSH) (laidBlock i (number (place i 0)) 13 0 1 2)
+    (pick (eqb (i .name) LDMDA) (multiple i 1 0)
+    (pick (eqb (i .name) LDM) (multiple i 1 1)
+    (pick (eqb (i .name) LDMDB) (multiple i 1 2)
+    (pick (eqb (i .name) LDMIB) (multiple i 1 3)
+    (pick (eqb (i .name) STMDA) (multiple i 0 0)
+    (pick (eqb (i .name) STM) (multiple i 0 1)
+    (pick (eqb (i .name) STMDB) (multiple i 0 2)
+    (multiple i 0 3)))))))))
+
+-- how far a target lies from the address plus 8, in 32 bits
+unfoldable pub offsetOf : ℕ → ℕ → ℕ
+offsetOf addr to = (to + (2 ^ 32 - (addr + 8) % 2 ^ 32)) % 2 ^ 32
+
+abbrev pub offset : Insn → ℕ
+offset i = offsetOf (i .addr) (number (place i 0))
+
+-- offset L 101 cond, from bit 0 up
+abbrev pub branchLayout : List ℕ
+branchLayout = 24 ∷ 1 ∷ 3 ∷ 4 ∷ []
+
+abbrev pub laidBranch : Insn → ℕ → ℕ
+laidBranch i bit = join branchLayout (offset i / 4 % 2 ^ 24 ∷ bit ∷ 5 ∷ i .cond .0 ∷ [])
+
+abbrev pub branchWord : Insn → ℕ
+branchWord i = laidBranch i (pick (eqb (i .name) BL) 1 0)
+
+-- bit 24 is the halfword
+abbrev pub blxWord : Insn → ℕ
+blxWord i = laidBranch i (offset i / 2 % 2)
+
+-- the base of a memory form
+abbrev pub memoryBase : Operand → ℕ
+memoryBase Empty = 0
+memoryBase (Register r) = 0
+memoryBase (Shifted r k n) = 0
+memoryBase (ShiftBy k r) = 0
+memoryBase (SaturateShift k n) = 0
+memoryBase (Rotate n) = 0
+memoryBase (Count z) = 0
+memoryBase (Number n) = 0
+memoryBase (StatusMask n) = 0
+memoryBase (StatusSource s) = 0
+memoryBase (WriteBack r) = 0
+memoryBase (Operand·List n) = 0
+memoryBase (Address n) = 0
+memoryBase (Memory m) = m .base .0
+
+-- the displacement of a memory form
+abbrev pub displacement : Operand → ℤ
+displacement Empty = pos 0
+displacement (Register r) = pos 0
+displacement (Shifted r k n) = pos 0
+displacement (ShiftBy k r) = pos 0
+displacement (SaturateShift k n) = pos 0
+displacement (Rotate n) = pos 0
+displacement (Count z) = pos 0
+displacement (Number n) = pos 0
+displacement (StatusMask n) = pos 0
+displacement (StatusSource s) = pos 0
+displacement (WriteBack r) = pos 0
+displacement (Operand·List n) = pos 0
+displacement (Address n) = pos 0
+displacement (Memory m) = m .disp
+
+-- U: a displacement is added, or taken away
+abbrev pub upOf : ℤ → ℕ
+upOf (pos n) = 1
+upOf (negsuc n) = 0
+
+-- displacement 1111 rn 00 W U 0101 cond, from bit 0 up
+abbrev pub preloadLayout : List ℕ
+preloadLayout = 12 ∷ 4 ∷ 4 ∷ 2 ∷ 1 ∷ 1 ∷ 4 ∷ 4 ∷ []
+
+abbrev pub preloadWord : Insn → ℕ
+preloadWord i =
+    join preloadLayout
+    (natAbs (displacement (place i 0))
+    ∷ 15
+    ∷ memoryBase (place i 0)
+    ∷ 0
+    ∷ pick (eqb (i .name) PLDW) 1 0
+    ∷ upOf (displacement (place i 0))
+    ∷ 5
+    ∷ i .cond .0
+    ∷ [])
