@@ -1,6 +1,6 @@
 -- 01, "Proved cases": one table, one theorem. The home words of case 13 belong to the encoder.
 use mathlib.Core.Path.{_≡_, refl}
-use mathlib.Core.Bool.{false, true}
+use mathlib.Core.Bool.{true}
 use mathlib.Core.List.{List, [], _∷_}
 use Prim.Native.Nat.{ℕ}
 use lib.Count.{onesIn}
@@ -11,7 +11,6 @@ use Rattle.insn.specs.Answer.{insnOf, places, accepted, refused}
 use Rattle.insn.specs.Memory.{baseDisp}
 use Rattle.insn.specs.Name.{MOV, LSR, RRX, CMP, BFC, POP, B, BLX, LDR, PLDW}
 use Rattle.insn.specs.declared.Decoded.{Decoded}
-use Rattle.insn.specs.declared.Reg.{Reg}
 use Rattle.insn.specs.declared.Flow.{Flow}
 use Rattle.insn.specs.declared.Flow.the-variants.{Next, Branch, IndirectBranch, Call, Return}
 use Rattle.insn.specs.declared.Index.the-variants.{Absent}

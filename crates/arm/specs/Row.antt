@@ -1,6 +1,5 @@
 -- How a row reads: tests on fields of the word, and an answer made of them.
 use mathlib.Core.List.{List, [], _∷_}
-use mathlib.Core.Bool.{Bool, true, false}
 use Prim.Native.Nat.{ℕ}
 use lib.Dec.{eqb}
 use Rattle.word.specs.Field.{field}

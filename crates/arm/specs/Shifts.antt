@@ -1,5 +1,5 @@
 -- The shifts of a register (01, "Register data processing").
-use mathlib.Core.Bool.{Bool, true, false}
+use mathlib.Core.Bool.{Bool}
 use Prim.Native.Nat.{ℕ}
 use lib.Dec.{eqb}
 use Rattle.word.specs.Field.{field}

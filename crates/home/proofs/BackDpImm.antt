@@ -1,28 +1,26 @@
 -- Immediate data processing: an answer leads back to its home word. Assumes nothing.
-use mathlib.Core.Path.{_≡_, refl, ap, _∙_, sym, subst}
-use mathlib.Core.Bool.{Bool, true, false, not}
-use mathlib.Core.List.{List, [], _∷_}
+use mathlib.Core.Path.{_≡_, refl, sym, subst}
+use mathlib.Core.Bool.{true, false}
+use mathlib.Core.List.{[], _∷_}
 use Prim.Native.Nat.{ℕ, _+_, _*_, _/_, _%_, _^_, _<_}
 use native.Mathlib.Nat.{lt-of-le-of-lt}
 use native.Mathlib.Omega.{arith}
 use borrow.Author.Tests.{eqb-true, eqb-false}
-use lib.Dec.{T, eqb}
+use lib.Dec.{eqb}
 use lib.Pow.{high, low}
-use Rattle.word.specs.Choice.{pick, both}
 use Rattle.word.specs.Field.{field, clear, clear-le, small, splits}
 use Rattle.word.specs.Layout.{join, joined, whole}
 use Rattle.insn.specs.Name.{MSR}
 use Rattle.insn.specs.declared.Decoded.{Decoded}
 use Rattle.imm.specs.Imm.{leastOf}
-use Rattle.dp.specs.Names.{dpName}
 use Rattle.dp.specs.DpImm.{dpImmOf, hintSlot, msrOf, operationOf, toPc}
 use Rattle.home.specs.Table.{ignored}
 use Rattle.home.specs.Home.{clearAll, moveRow, dpImmRow}
 use Rattle.home.specs.Parts.{place, isCount, isAddress}
 use Rattle.home.specs.WordDp.{byImmediate, wideLayout, hintLayout, msrLayout, dpWord, wideWord, msrImmediateWord}
-use Rattle.home.proofs.BackDpReg.{compares, under, op-of, s-of, dp-inside, compare-ops, other-ops}
+use Rattle.home.proofs.BackDpReg.{under, op-of, s-of, dp-inside, compare-ops, other-ops}
 use Rattle.home.proofs.BackImm.{imm-one, imm-two}
-use Rattle.home.proofs.Leads.{apart, Leads, split, bit-cases, at-home, refusal}
+use Rattle.home.proofs.Leads.{apart, Leads, split, bit-cases, at-home, refusal, parts}
 
 -- a number of two fields, cut in two again
 upper : (w lo j lo′ k : ℕ) → joined w lo j lo′ k / 2 ^ k ≡ field w lo j
@@ -45,10 +43,6 @@ module _ (w addr : ℕ) (bound : w < 2 ^ 32) (group : field w 25 3 ≡ 1) where
   pub movt-leads : field w 20 5 ≡ 20 → Leads wideWord 75 81 w (dpImmOf w addr)
   movt-leads op ok =
       (simp (op, upper w 16 4 0 12, lower w 16 4 0 12) (wide-whole 20 op), simp op, simp op)
-
-  parts : (a b : Bool) → both a b ≡ true → (a ≡ true) × (b ≡ true)
-  parts true b e = (refl, e)
-  parts false b e = absurd (subst (λ (x : Bool). T (not x)) e tt)
 
   -- the hints ignore 11:8
   hint-whole : field w 20 5 ≡ 18 → hintSlot w ≡ true → (n : ℕ) → field w 0 8 ≡ n

@@ -1,15 +1,15 @@
 -- Register data processing: an answer leads back to its home word. Assumes nothing.
-use mathlib.Core.Path.{_≡_, refl, ap, _∙_, sym, subst}
+use mathlib.Core.Path.{_≡_, ap, _∙_, sym, subst}
 use mathlib.Core.Bool.{Bool, true, false, not}
 use mathlib.Core.List.{List, [], _∷_}
-use Prim.Native.Nat.{ℕ, zero, suc, _+_, _-_, _*_, _/_, _%_, _^_, _<_, _≤_}
+use Prim.Native.Nat.{ℕ, _+_, _*_, _/_, _%_, _^_, _<_, _≤_}
 use native.Mathlib.Nat.{lt-of-le-of-lt, mod-eq-of-lt}
 use native.Mathlib.Omega.{arith}
 use borrow.Author.Tests.{eqb-true, eqb-false, ltb-true, leb-true, le-leb, lt-leb}
 use lib.Dec.{T, eqb, leb, ltb, eqb→eq}
 use lib.IntN.{pos}
 use lib.ListN.{getD}
-use Rattle.word.specs.Choice.{pick, both, by-test}
+use Rattle.word.specs.Choice.{pick, both}
 use Rattle.word.specs.Every.{left, right, at-each}
 use Rattle.word.specs.Field.{field, clear, clear-le, small, splits}
 use Rattle.word.specs.Layout.{join, whole}
@@ -30,7 +30,7 @@ use Rattle.home.specs.Table.{ignored}
 use Rattle.home.specs.Home.{clearAll, moveRow, dpRegRow}
 use Rattle.home.specs.Parts.{place, register, kind, amount, isCount, isAddress}
 use Rattle.home.specs.WordDp.{operation, setting, byAmount, byRegister, shiftWord, dpWord}
-use Rattle.home.proofs.Leads.{apart, inside, Leads, split, bit-cases, two-cases, at-home}
+use Rattle.home.proofs.Leads.{apart, inside, Leads, split, bit-cases, two-cases, at-home, parts, passes}
 
 -- the shift of a word, from its operand
 kinds : (w : ℕ) → shiftNumber (shiftOf (field w 5 2)) ≡ field w 5 2
@@ -41,10 +41,6 @@ amounts w =
     split (eqb (field w 7 5) 0)
     (λ e. let z : field w 7 5 ≡ 0 = eqb-true _ 0 e in two-cases w 5 (λ k. simp (k, z)) (λ k. simp (k, z)) (λ k. simp (k, z)) (λ k. simp (k, z)))
     (λ e. simp e (mod-eq-of-lt (small w 7 5)))
-
-parts : (a b : Bool) → both a b ≡ true → (a ≡ true) × (b ≡ true)
-parts true b e = (refl, e)
-parts false b e = absurd (subst (λ (x : Bool). T (not x)) e tt)
 
 -- the source of an operation that is shifted by an amount: plain, or with its kind and amount
 source-kind : (w : ℕ) → kind (shiftedOf w) ≡ field w 5 2
@@ -67,10 +63,6 @@ named op s = pick (eqb s 0) (getD Names.plain op 0) (getD Names.setting op 0)
 
 abbrev pub compares : ℕ → Bool
 compares op = both (leb 8 op) (leb op 11)
-
-passes-eq : (b : Bool) → T b → b ≡ true
-passes-eq true t = refl
-passes-eq false t = absurd t
 
 named-test : ℕ → ℕ → Bool
 named-test op s =
@@ -101,7 +93,7 @@ module _ (w : ℕ) where
 
   pub under : ltb (dpName w) 28 ≡ true
   unfolding dpName named-test
-  under = passes-eq _ (right (eqb (setting (dpName w)) (pick (compares (field w 21 4)) 1 (field w 20 1))) _ (right (eqb (operation (dpName w)) (field w 21 4)) _ tested))
+  under = passes _ (right (eqb (setting (dpName w)) (pick (compares (field w 21 4)) 1 (field w 20 1))) _ (right (eqb (operation (dpName w)) (field w 21 4)) _ tested))
 
   pub dp-inside : inside 0 37 (dpName w) ≡ true
   dp-inside = simp (le-leb 0 (dpName w) (omega arith), le-leb (dpName w) 37 (omega (arith, ltb-true (dpName w) 28 under)))

@@ -15,7 +15,8 @@ use Rattle.ldst.specs.Mem.{unprivilegedOf, modeOf, minusZeroOf}
 use Rattle.a32.specs.Decode.{extraOf}
 use Rattle.home.specs.Table.{ignored, MUL-ROW, ALL-READ}
 use Rattle.home.specs.Home.{clearAll, extraRow}
-use Rattle.home.specs.WordExtra.{extra-layout, form, bitP, bitW, bitU, transfer, extraWord}
+use Rattle.home.specs.Parts.{memory}
+use Rattle.home.specs.WordExtra.{extra-layout, bitP, bitW, bitU, transfer, extraWord}
 use Rattle.home.proofs.Leads.{apart, Leads, split, bit-cases, two-cases, refusal}
 use Rattle.home.proofs.Digits.{upper, lower}
 use Rattle.home.proofs.BackMultiply.{mul-leads, rest-leads}
@@ -56,7 +57,7 @@ module _ (w addr : ℕ) (bound : w < 2 ^ 32) (group : field w 25 3 ≡ 0) (seven
   -- the memory form of an extra load or store, beside its kind and L, gives its home word
   home : (kind l size : ℕ) → eqb (field w 5 2) 0 ≡ false → field w 5 2 ≡ kind → field w 20 1 ≡ l
       → unprivilegedOf w ≡ false → subtractedIndexOf w ≡ false
-      → transfer (field w 28 4) (field w 12 4) kind l (form (memoryOf w size)) ≡ clearAll (ignored (extraRow w)) w
+      → transfer (field w 28 4) (field w 12 4) kind l (memory (memoryOf w size)) ≡ clearAll (ignored (extraRow w)) w
   unfolding extraRow subtractedIndexOf minusZeroOf
   home kind l size other is-kind is-l post added =
       bit-cases w 22

@@ -1,15 +1,13 @@
 -- The immediates, back from their counts: one test over all 4,096 fields. Assumes nothing.
-use mathlib.Core.Path.{_≡_, refl, _∙_, ap, sym, subst}
+use mathlib.Core.Path.{_≡_, refl, _∙_, subst}
 use mathlib.Core.Bool.{Bool, true, false, not}
-use Prim.Native.Nat.{ℕ, zero, suc, _+_, _-_, _*_, _/_, _%_, _^_, _<_, _≤_}
+use Prim.Native.Nat.{ℕ, zero, suc, _+_, _-_, _*_, _/_, _^_, _<_, _≤_}
 use native.Mathlib.Omega.{arith}
-use borrow.Author.Tests.{ltb-true, ltb-false}
 use lib.Dec.{T, eqb, ltb, eqb→eq}
-use lib.IntN.{ℤ, pos}
-use Rattle.word.specs.Choice.{pick, both, by-test}
+use Rattle.word.specs.Choice.{by-test}
 use Rattle.word.specs.Every.{at-each}
-use Rattle.word.specs.Field.{field, small}
-use Rattle.word.specs.Signed.{minus, signed}
+use Rattle.word.specs.Field.{field}
+use Rattle.word.specs.Signed.{minus}
 use Rattle.imm.specs.Closed.{value-fits}
 use Rattle.imm.specs.Imm.{byteOf, rotationOf, soImmOf, leastOf, countOf}
 use Rattle.home.specs.Parts.{bits32}

@@ -5,8 +5,8 @@ use mathlib.Core.List.{[], _∷_}
 use Prim.Native.Nat.{ℕ, zero, suc, _+_, _^_, _<_}
 use native.Mathlib.Omega.{arith}
 use borrow.Author.Tests.{eqb-true, eqb-false}
-use lib.Dec.{eqb, leb}
-use Rattle.word.specs.Choice.{pick, both}
+use lib.Dec.{eqb}
+use Rattle.word.specs.Choice.{pick}
 use Rattle.word.specs.Field.{field, put, small, splits}
 use Rattle.word.specs.Layout.{join, whole}
 use Rattle.word.specs.Signed.{minus}
@@ -14,29 +14,11 @@ use Rattle.ldst.specs.Mem.{unprivilegedOf, modeOf, postOf, dispOf, minusZeroOf}
 use Rattle.ldst.specs.Ldst.{nameOf, refusedIndexOf, markedOf, ldstOf}
 use Rattle.home.specs.Home.{raisesOf, raised}
 use Rattle.home.specs.WordLdst.{magnitude, upBit, loadBit, byteBit, userBit, beforeBit, writeBit, immediateLayout, indexLayout, ldstWord}
-use Rattle.home.proofs.Leads.{apart, Leads, inside, split, bit-cases, refusal}
-
--- what raising a word leaves
-raised-above : (up : Bool) (w lo k : ℕ) → leb 24 lo ≡ true → field (raised up w) lo k ≡ field w lo k
-raised-above true w lo k h = simp (apart, h)
-raised-above false w lo k h = refl
-
-raised-below : (up : Bool) (w lo k : ℕ) → leb (lo + k) 23 ≡ true → field (raised up w) lo k ≡ field w lo k
-raised-below true w lo k h = simp (apart, h)
-raised-below false w lo k h = refl
-
-raised-small : (up : Bool) (w : ℕ) → w < 2 ^ 32 → raised up w < 2 ^ 32
-unfolding put
-raised-small true w h = omega arith
-raised-small false w h = h
+use Rattle.home.proofs.Leads.{apart, Leads, inside, split, bit-cases, refusal, fails, raised-above, raised-below, raised-small}
 
 -- 27:25 is 27:26 and bit 25
 form : (w b : ℕ) → field w 26 2 ≡ 1 → field w 25 1 ≡ b → field w 25 3 ≡ 2 + b
 form w b h l = omega (arith, splits w 25 2 1)
-
-both-false : (b : Bool) → both b false ≡ false
-both-false true = refl
-both-false false = refl
 
 magnitude-minus : (n : ℕ) → magnitude (minus n) ≡ n
 unfolding magnitude
@@ -95,7 +77,7 @@ module _ (w : ℕ) where
       some z =
           bit-cases w 23
           (λ u. simp (u, z) (minus-down (field w 0 12) _ z))
-          (λ u. simp (u, z, both-false))
+          (λ u. simp (u, z, fails))
 
       none : field w 0 12 ≡ 0 → Up
       none z =
@@ -139,7 +121,7 @@ module _ (w addr : ℕ) (bound : w < 2 ^ 32) (cond : eqb (field w 28 4) 15 ≡ f
   unfolding raisesOf
   never-raised form1 =
       let three : field w 25 3 ≡ 3 = form w 1 group form1 in
-      simp (cond, three, both-false)
+      simp (cond, three, fails)
 
   pub ldst-leads : (field w 25 1 ≡ 1 → field w 4 1 ≡ 0) → Leads ldstWord 82 89 (raised (raisesOf w) w) (ldstOf w addr)
   ldst-leads four =

@@ -4,7 +4,6 @@ use mathlib.Core.Bool.{Bool, true, false}
 use mathlib.Core.List.{[], _∷_}
 use Prim.Native.Nat.{ℕ, zero, suc, _^_, _<_}
 use native.Mathlib.Nat.{lt-of-le-of-lt}
-use native.Mathlib.Omega.{arith}
 use borrow.Author.Tests.{eqb-true, eqb-false}
 use lib.Dec.{T, eqb, eqb→eq}
 use lib.IntN.{pos, natAbs}
@@ -17,20 +16,16 @@ use Rattle.insn.specs.Name.{PLDW}
 use Rattle.ldst.specs.Mem.{dispOf}
 use Rattle.transfer.specs.Unconditional.{preloadSlot, preloadName, unconditionalOf}
 use Rattle.home.specs.Home.{raised, raisesOf}
-use Rattle.home.specs.WordTransfer.{preloadLayout, preloadWord, upOf}
-use Rattle.home.proofs.Leads.{apart, Leads, inside, split, bit-cases, refusal}
+use Rattle.home.specs.Parts.{up}
+use Rattle.home.specs.WordTransfer.{preloadLayout, preloadWord}
+use Rattle.home.proofs.Leads.{apart, Leads, inside, split, bit-cases, refusal, raised-small}
 
 -- a displacement that is not 0 holds its magnitude and its sign
 signed-parts : (down : Bool) (off : ℕ) → eqb off 0 ≡ false
-    → (natAbs (pick down (minus off) (pos off)) ≡ off) × (upOf (pick down (minus off) (pos off)) ≡ pick down 0 1)
+    → (natAbs (pick down (minus off) (pos off)) ≡ off) × (up (pick down (minus off) (pos off)) ≡ pick down 0 1)
 signed-parts down zero h = absurd (eqb-false 0 0 h refl)
 signed-parts true (suc n) h = (refl, refl)
 signed-parts false (suc n) h = (refl, refl)
-
--- a word with bit 23 set still has 32 bits
-raised-small : (w : ℕ) → w < 2 ^ 32 → put w 23 1 1 < 2 ^ 32
-unfolding put
-raised-small w h = omega arith
 
 -- "27:24 = 0101, 15:12 = 15, bit 4 clear", passed
 slotted : (w : ℕ) → T (preloadSlot w) → (field w 24 4 ≡ 5) × (field w 12 4 ≡ 15)
@@ -42,10 +37,10 @@ module _ (w : ℕ) where
   none-parts : field w 0 12 ≡ 0 → dispOf w (field w 0 12) ≡ pos 0
   none-parts none = bit-cases w 23 (λ u. simp (none, u)) (λ u. simp (none, u))
 
-  some-parts : eqb (field w 0 12) 0 ≡ false → (natAbs (dispOf w (field w 0 12)) ≡ field w 0 12) × (upOf (dispOf w (field w 0 12)) ≡ field w 23 1)
+  some-parts : eqb (field w 0 12) 0 ≡ false → (natAbs (dispOf w (field w 0 12)) ≡ field w 0 12) × (up (dispOf w (field w 0 12)) ≡ field w 23 1)
   some-parts some = (parts .0, parts .1 ∙ bit-cases w 23 (λ u. simp (u)) (λ u. simp (u)))
     where
-      parts : (natAbs (dispOf w (field w 0 12)) ≡ field w 0 12) × (upOf (dispOf w (field w 0 12)) ≡ pick (eqb (field w 23 1) 0) 0 1)
+      parts : (natAbs (dispOf w (field w 0 12)) ≡ field w 0 12) × (up (dispOf w (field w 0 12)) ≡ pick (eqb (field w 23 1) 0) 0 1)
       parts = signed-parts (eqb (field w 23 1) 0) (field w 0 12) some
 
   named : (pick (eqb (preloadName w) PLDW) 1 0 ≡ field w 22 1) × (inside 127 128 (preloadName w) ≡ true)
@@ -87,7 +82,7 @@ module _ (w addr : ℕ) (bound : w < 2 ^ 32) (cond : field w 28 4 ≡ 15) (group
   )
     where
       home : join preloadLayout (0 ∷ 15 ∷ field w 16 4 ∷ 0 ∷ field w 22 1 ∷ 1 ∷ 5 ∷ field w 28 4 ∷ []) ≡ put (clear w 20 2) 23 1 1
-      home = simp (apart, five, ones, none) at (whole preloadLayout (put (clear w 20 2) 23 1 1) (raised-small (clear w 20 2) cleared-small))
+      home = simp (apart, five, ones, none) at (whole preloadLayout (put (clear w 20 2) 23 1 1) (raised-small true (clear w 20 2) cleared-small))
 
   some-leads : preloadSlot w ≡ true → (field w 24 4 ≡ 5) × (field w 12 4 ≡ 15) → eqb (field w 0 12) 0 ≡ false → Home
   some-leads slot (five, ones) some ok = (

@@ -1,22 +1,17 @@
 -- The home word of a word, group by group. Assumes nothing.
-use mathlib.Core.Path.{_≡_, refl, sym, ap, _∙_, subst}
-use mathlib.Core.Bool.{Bool, true, false, not}
-use Prim.Native.Nat.{ℕ, _+_}
+use mathlib.Core.Path.{_≡_, refl, ap}
+use mathlib.Core.Bool.{true, false}
+use Prim.Native.Nat.{ℕ}
 use native.Mathlib.Omega.{arith}
 use borrow.Author.Tests.{lt-ltb, ltb-true, ne-eqb}
-use lib.Dec.{eqb, leb, ltb}
-use Rattle.word.specs.Choice.{pick, both}
-use Rattle.word.specs.Field.{field, clear, put-above, put-below, splits}
+use lib.Dec.{eqb, ltb}
+use Rattle.word.specs.Choice.{pick}
+use Rattle.word.specs.Field.{field, clear, splits}
 use Rattle.dp.specs.DpImm.{hintSlot}
 use Rattle.a32.specs.Decode.{controlOf}
 use Rattle.home.specs.Table.{ignored}
 use Rattle.home.specs.Home.{clearAll, controlRow, moveRow, dpRegRow, extraRow, plainRow, dpMiscRow, dpImmRow, mediaRow, rowOf, raisesOf, raised, homeOf}
-use Rattle.home.proofs.Leads.{split, bit-cases}
-
--- a test whose second half fails
-fails : (b : Bool) → both b false ≡ false
-fails true = refl
-fails false = refl
+use Rattle.home.proofs.Leads.{split, bit-cases, fails}
 
 module _ (w : ℕ) where
   pub blx-home : field w 28 4 ≡ 15 → field w 25 3 ≡ 5 → homeOf w ≡ w
@@ -138,14 +133,6 @@ module _ (w : ℕ) where
 -- a row below 15 is below 17
 pub fewer : (row : ℕ) → ltb row 15 ≡ true → ltb row 17 ≡ true
 fewer row below = lt-ltb row 17 (omega (arith, ltb-true row 15 below))
-
--- what setting bit 23 leaves
-module _ (up : Bool) (w : ℕ) where
-  pub raised-above : (lo k : ℕ) → leb 24 lo ≡ true → field (raised up w) lo k ≡ field w lo k
-  raised-above lo k h = split up (λ e. simp (e, put-above w 23 1 1 refl lo k h)) (λ e. simp e)
-
-  pub raised-below : (lo k : ℕ) → leb (lo + k) 23 ≡ true → field (raised up w) lo k ≡ field w lo k
-  raised-below lo k h = split up (λ e. simp (e, put-below w 23 1 1 refl lo k h)) (λ e. simp e)
 
 -- the rows of immediate data processing that stand apart
 module _ (w : ℕ) where

@@ -1,19 +1,15 @@
 -- Data processing: clearing what a row ignores changes no answer. Assumes nothing.
-use mathlib.Core.Path.{_≡_, refl}
-use mathlib.Core.Bool.{Bool, true, false}
+use mathlib.Core.Path.{_≡_}
 use Prim.Native.Nat.{ℕ}
-use borrow.Author.Tests.{eqb-true}
 use lib.Dec.{eqb}
-use Rattle.word.specs.Choice.{pick, both}
-use Rattle.word.specs.Field.{field, clear}
-use Rattle.arm.specs.Row.{rd}
+use Rattle.word.specs.Field.{field}
 use Rattle.arm.specs.Shifts.{plainOf, rrxOf}
 use Rattle.dp.specs.Names.{dpName, shiftName}
 use Rattle.dp.specs.DpReg.{dpRegOf}
 use Rattle.dp.specs.DpImm.{dpImmOf, hintSlot}
 use Rattle.home.specs.Table.{ignored}
 use Rattle.home.specs.Home.{clearAll, moveRow, dpRegRow, dpImmRow}
-use Rattle.home.proofs.Leads.{apart, split}
+use Rattle.home.proofs.Leads.{apart, split, fails}
 
 pub dp-reg-keeps : (w addr : ℕ) → dpRegOf (clearAll (ignored (dpRegRow w)) w) addr ≡ dpRegOf w addr
 unfolding dpRegRow moveRow dpName shiftName plainOf rrxOf
@@ -24,11 +20,6 @@ dp-reg-keeps w addr =
     (λ other.
     split (eqb (field w 21 4) 13) (λ mov. simp (apart, other, mov))
     (λ n13. split (eqb (field w 21 4) 15) (λ mvn. simp (apart, other, n13, mvn)) (λ n15. simp (other, n13, n15))))
-
--- a second test that fails
-fails : (b : Bool) → both b false ≡ false
-fails true = refl
-fails false = refl
 
 pub dp-imm-keeps : (w addr : ℕ) → dpImmOf (clearAll (ignored (dpImmRow w)) w) addr ≡ dpImmOf w addr
 unfolding dpImmRow moveRow dpName hintSlot

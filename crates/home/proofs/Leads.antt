@@ -1,14 +1,15 @@
 -- What is shown of each group of rows, and how its proofs go by cases. Assumes nothing.
-use mathlib.Core.Path.{_≡_, refl, ap, sym, _∙_}
-use mathlib.Core.Bool.{Bool, true, false}
-use Prim.Native.Nat.{ℕ, suc, Ordering, compare·suc-zero}
+use mathlib.Core.Path.{_≡_, refl, ap, sym, _∙_, subst}
+use mathlib.Core.Bool.{Bool, true, false, not}
+use Prim.Native.Nat.{ℕ, suc, _+_, _^_, _<_, Ordering, compare·suc-zero}
 use native.Mathlib.Omega.{arith}
 use borrow.Author.Tests.{eqb-true, eqb-false}
-use lib.Dec.{eqb, leb, isEq}
+use lib.Dec.{T, eqb, leb, isEq}
 use Rattle.word.specs.Choice.{both}
-use Rattle.word.specs.Field.{field, small, keeps-above, keeps-below, cleared, put-above, put-below, put-at}
+use Rattle.word.specs.Field.{field, put, small, keeps-above, keeps-below, cleared, put-above, put-below, put-at}
 use Rattle.insn.specs.declared.Decoded.{Decoded}
 use Rattle.insn.specs.declared.Insn.{Insn}
+use Rattle.home.specs.Home.{raised}
 use Rattle.home.specs.Parts.{place, isAddress}
 
 -- what clearing a field, or putting one, leaves of the others
@@ -56,3 +57,28 @@ two-cases w lo a b c d =
 -- a home word by another name
 pub at-home : (word : Insn → ℕ) (lo hi : ℕ) (d : Decoded) {h h′ : ℕ} → h′ ≡ h → Leads word lo hi h d → Leads word lo hi h′ d
 at-home word lo hi d e leads ok = (leads ok .0 ∙ sym e, leads ok .1, leads ok .2)
+
+-- tests: two that pass, a second that fails, and one that passes as an equation
+pub parts : (a b : Bool) → both a b ≡ true → (a ≡ true) × (b ≡ true)
+parts true b e = (refl, e)
+parts false b e = absurd (subst (λ (x : Bool). T (not x)) e tt)
+
+pub fails : (b : Bool) → both b false ≡ false
+fails true = refl
+fails false = refl
+
+pub passes : (b : Bool) → T b → b ≡ true
+passes true t = refl
+passes false t = absurd t
+
+-- what setting bit 23 leaves, and that it stays within a word
+module _ (raise : Bool) (w : ℕ) where
+  pub raised-above : (lo k : ℕ) → leb 24 lo ≡ true → field (raised raise w) lo k ≡ field w lo k
+  raised-above lo k h = split raise (λ e. simp (e, put-above w 23 1 1 refl lo k h)) (λ e. simp e)
+
+  pub raised-below : (lo k : ℕ) → leb (lo + k) 23 ≡ true → field (raised raise w) lo k ≡ field w lo k
+  raised-below lo k h = split raise (λ e. simp (e, put-below w 23 1 1 refl lo k h)) (λ e. simp e)
+
+  pub raised-small : w < 2 ^ 32 → raised raise w < 2 ^ 32
+  unfolding put
+  raised-small h = split raise (λ e. simp e (omega arith)) (λ e. simp e h)

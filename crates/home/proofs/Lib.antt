@@ -20,3 +20,4 @@ pub mod Homes
 pub mod Same
 pub mod Laid
 pub mod Unique
+pub mod Address

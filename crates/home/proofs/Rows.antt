@@ -1,18 +1,17 @@
 -- What clearing any row's fields leaves of a word: one test over the table of ignored bits. Assumes nothing.
-use mathlib.Core.Path.{_≡_, refl, sym, _∙_, subst}
+use mathlib.Core.Path.{_≡_, refl, _∙_, subst}
 use mathlib.Core.Bool.{Bool, true, false}
 use mathlib.Core.List.{List, [], _∷_}
-use Prim.Native.Nat.{ℕ, zero, suc, _+_, _^_, _<_, _≤_}
+use Prim.Native.Nat.{ℕ, _+_, _≤_}
 use native.Mathlib.Nat.{le-trans, le-refl}
 use borrow.Author.Tests.{ltb-true}
 use lib.Dec.{T, leb, ltb}
-use lib.ListN.{getD}
-use Rattle.word.specs.Choice.{pick, both}
+use Rattle.word.specs.Choice.{both}
 use Rattle.word.specs.Every.{left, right, every, at-each}
 use Rattle.word.specs.Field.{field, clear, keeps-above, keeps-below, clear-le}
-use Rattle.home.specs.Table.{Ignored, ignored, table}
+use Rattle.home.specs.Table.{Ignored, ignored}
 use Rattle.home.specs.Home.{clearAll}
-use Rattle.home.proofs.Leads.{split}
+use Rattle.home.proofs.Leads.{split, passes}
 
 either : Bool → Bool → Bool
 either true b = true
@@ -27,10 +26,6 @@ unfoldable spared : ℕ → ℕ → List Ignored → Bool
 unfolding either beside
 spared lo k [] = true
 spared lo k (f ∷ fs) = both (beside lo k f) (spared lo k fs)
-
-passes : (b : Bool) → T b → b ≡ true
-passes true t = refl
-passes false t = absurd t
 
 one-spared : (lo k w : ℕ) (f : Ignored) → T (beside lo k f) → field (clear w (f .lo) (f .width)) lo k ≡ field w lo k
 unfolding beside either

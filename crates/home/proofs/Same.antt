@@ -1,16 +1,14 @@
 -- Demand 3: a home word has its word's answer, an answer leads back to its home word, and so two words have one answer
 -- exactly if they have one home word. Assumes nothing.
 use mathlib.Core.Path.{_≡_, refl, sym, ap, _∙_, subst}
-use mathlib.Core.Bool.{Bool, true, false, not}
+use mathlib.Core.Bool.{Bool, true, false}
 use mathlib.Core.Logic.{_↔_}
 use Prim.Native.Nat.{ℕ, _^_, _<_}
 use native.Mathlib.Nat.{lt-of-le-of-lt}
 use native.Mathlib.Omega.{arith}
 use borrow.Author.Tests.{eqb-true, eqb-false}
-use lib.Dec.{T, eqb, ltb}
-use Rattle.word.specs.Choice.{pick, both}
-use Rattle.word.specs.Field.{field, clear, put, small, splits}
-use Rattle.insn.specs.Name.{MSR, BLX}
+use lib.Dec.{eqb, ltb}
+use Rattle.word.specs.Field.{field, clear, small, splits}
 use Rattle.insn.specs.declared.Decoded.{Decoded}
 use Rattle.insn.specs.declared.Insn.{Insn}
 use Rattle.dp.specs.DpImm.{dpImmOf, hintSlot}
@@ -25,14 +23,9 @@ use Rattle.insn.specs.Answer.{accepted, refused}
 use Rattle.a32.specs.Decode.{decodeOf, controlOf, extraOf}
 use Rattle.home.specs.Table.{ignored}
 use Rattle.home.specs.Home.{clearAll, controlRow, dpRegRow, extraRow, dpImmRow, mediaRow, rowOf, raisesOf, raised, homeOf}
-use Rattle.home.specs.Parts.{place, isAddress, isCount}
-use Rattle.home.specs.Word.{wordOf, statusWord}
-use Rattle.home.specs.WordDp.{dpWord, wideWord, msrImmediateWord}
+use Rattle.home.specs.Parts.{place, isAddress}
+use Rattle.home.specs.Word.{wordOf}
 use Rattle.home.specs.WordMisc.{miscWord}
-use Rattle.home.specs.WordExtra.{extraWord}
-use Rattle.home.specs.WordLdst.{ldstWord}
-use Rattle.home.specs.WordMedia.{mediaWord}
-use Rattle.home.specs.WordTransfer.{blockWord, preloadWord}
 use Rattle.home.proofs.BackBlock.{block-leads}
 use Rattle.home.proofs.BackBranch.{branch-leads, blx-leads}
 use Rattle.home.proofs.BackDpImm.{movw-leads, movt-leads, hint-leads, Msr, msr-low, msr-high, operation-leads}
@@ -44,13 +37,9 @@ use Rattle.home.proofs.BackMisc.{misc-keeps, misc-leads, misc-second}
 use Rattle.home.proofs.BackUnconditional.{preload-keeps, preload-leads}
 use Rattle.home.proofs.Homes as H
 use Rattle.home.proofs.KeepsDp.{dp-reg-keeps, dp-imm-keeps}
-use Rattle.home.proofs.Leads.{apart, Leads, inside, split, bit-cases, two-cases, refusal}
+use Rattle.home.proofs.Leads.{apart, Leads, inside, split, bit-cases, refusal, parts, raised-above, raised-below, raised-small}
 use Rattle.home.proofs.Rows.{clearAll-le, keeps-cond, keeps-group, keeps-4, keeps-7, keeps-24-23, keeps-20}
 use Rattle.home.proofs.Ways as Ways
-
-parts : (a b : Bool) → both a b ≡ true → (a ≡ true) × (b ≡ true)
-parts true b e = (refl, e)
-parts false b e = absurd (subst (λ (x : Bool). T (not x)) e tt)
 
 -- an answer that leads back under a name of its group
 by-leads : {word : Insn → ℕ} (lo hi h : ℕ) (d : Decoded) → Leads word lo hi h d
@@ -81,7 +70,7 @@ module _ (w addr : ℕ) (bound : w < 2 ^ 32) where
       (by-leads 127 128 _ (unconditionalOf w addr) (preload-leads w addr bound c g) Ways.named-preload))
     where
       still : field (raised (raisesOf w) (clear w 20 2)) 28 4 ≡ 15
-      still = H.raised-above (raisesOf w) (clear w 20 2) 28 4 refl ∙ simp (apart, c)
+      still = raised-above (raisesOf w) (clear w 20 2) 28 4 refl ∙ simp (apart, c)
 
       blx : field w 25 3 ≡ 5 → Settled
       blx g = settle w (blxOf w addr) (H.blx-home w c g) here here back
@@ -208,13 +197,13 @@ module _ (w addr : ℕ) (bound : w < 2 ^ 32) where
         (by-leads 82 89 _ (ldstOf w addr) (ldst-leads w addr bound c one four) Ways.named-ldst)
 
     raised-c : eqb (field (raised (raisesOf w) w) 28 4) 15 ≡ false
-    raised-c = rw (H.raised-above (raisesOf w) w 28 4 refl) c
+    raised-c = rw (raised-above (raisesOf w) w 28 4 refl) c
 
     raised-g : {n : ℕ} → field w 25 3 ≡ n → field (raised (raisesOf w) w) 25 3 ≡ n
-    raised-g g = H.raised-above (raisesOf w) w 25 3 refl ∙ g
+    raised-g g = raised-above (raisesOf w) w 25 3 refl ∙ g
 
     raised-4 : {n : ℕ} → field w 4 1 ≡ n → field (raised (raisesOf w) w) 4 1 ≡ n
-    raised-4 four = H.raised-below (raisesOf w) w 4 1 refl ∙ four
+    raised-4 four = raised-below (raisesOf w) w 4 1 refl ∙ four
 
     memory : field w 25 3 ≡ 2 → Settled
     memory g =
@@ -292,14 +281,8 @@ same-answer w w′ addr bound bound′ ok ok′ = (one-home, one-answer)
 
 -- a home word is a word
 pub home-small : (w : ℕ) → w < 2 ^ 32 → homeOf w < 2 ^ 32
-unfolding homeOf put
-home-small w bound = split (raisesOf w) (λ e. simp e (up _ cleared)) (λ e. simp e cleared)
-  where
-    cleared : clearAll (ignored (rowOf w)) w < 2 ^ 32
-    cleared = lt-of-le-of-lt (clearAll-le (ignored (rowOf w)) w) bound
-
-    up : (x : ℕ) → x < 2 ^ 32 → put x 23 1 1 < 2 ^ 32
-    up x h = omega arith
+unfolding homeOf
+home-small w bound = raised-small (raisesOf w) (clearAll (ignored (rowOf w)) w) (lt-of-le-of-lt (clearAll-le (ignored (rowOf w)) w) bound)
 
 -- the home of a home word is itself
 pub home-home : (w addr : ℕ) → w < 2 ^ 32 → (decodeOf w addr) .refusal ≡ 0 → homeOf (homeOf w) ≡ homeOf w

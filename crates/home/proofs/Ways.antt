@@ -1,15 +1,13 @@
 -- The group that a word goes to, and the group that a name leads to. Assumes nothing.
-use mathlib.Core.Path.{_≡_, refl, subst, _∙_}
-use mathlib.Core.Bool.{Bool, true, false, not}
-use Prim.Native.Nat.{ℕ, suc, _+_, _*_, _<_, _≤_}
+use mathlib.Core.Path.{_≡_, _∙_}
+use mathlib.Core.Bool.{true, false}
+use Prim.Native.Nat.{ℕ, _+_, _*_, _<_, _≤_}
 use native.Mathlib.Omega.{arith}
 use borrow.Author.Tests.{leb-true, ltb-true, lt-leb}
-use lib.Dec.{T, eqb, leb, ltb}
-use Rattle.word.specs.Choice.{pick, both}
+use lib.Dec.{eqb, leb, ltb}
 use Rattle.word.specs.Field.{field, small, splits}
 use Rattle.insn.specs.Answer.{refused}
 use Rattle.insn.specs.Name.{MSR, BLX}
-use Rattle.insn.specs.declared.Decoded.{Decoded}
 use Rattle.insn.specs.declared.Insn.{Insn}
 use Rattle.dp.specs.DpReg.{dpRegOf}
 use Rattle.dp.specs.DpImm.{dpImmOf}
@@ -28,7 +26,7 @@ use Rattle.home.specs.WordExtra.{extraWord}
 use Rattle.home.specs.WordLdst.{ldstWord}
 use Rattle.home.specs.WordMedia.{mediaWord}
 use Rattle.home.specs.WordTransfer.{blockWord, branchWord, blxWord, preloadWord}
-use Rattle.home.proofs.Leads.{inside, bit-cases}
+use Rattle.home.proofs.Leads.{inside, bit-cases, parts, fails}
 
 -- 27:26 from 27:25
 pub top : (w g h : ℕ) → field w 25 3 ≡ g → h * 2 ≤ g → g < h * 2 + 2 → field w 26 2 ≡ h
@@ -94,10 +92,6 @@ module _ (w addr : ℕ) where
     to-branch g = simp (c, top w 5 2 g (omega arith) (omega arith), g)
 
 -- a name between two numbers, against another
-parts : (a b : Bool) → both a b ≡ true → (a ≡ true) × (b ≡ true)
-parts true b e = (refl, e)
-parts false b e = absurd (subst (λ (x : Bool). T (not x)) e tt)
-
 beyond : (lo hi n : ℕ) → inside lo hi n ≡ true → (k : ℕ) → ltb k lo ≡ true → leb n k ≡ false
 beyond lo hi n is k less = lt-leb n k (omega (arith, ltb-true k lo less, leb-true lo n (parts (leb lo n) (leb n hi) is .0)))
 
@@ -150,10 +144,6 @@ module _ (i : Insn) (goes : isAddress (place i 0) ≡ true) where
 -- msr: of a register, or of an immediate
 pub named-misc : (i : Insn) → isAddress (place i 0) ≡ false → inside 38 48 (i .name) ≡ true → isCount (place i 1) ≡ false → wordOf i ≡ miscWord i
 named-misc i plain is register = named-status i plain is ∙ simp (register, fails)
-  where
-    fails : (b : Bool) → both b false ≡ false
-    fails true = refl
-    fails false = refl
 
 pub named-msr : (i : Insn) → isAddress (place i 0) ≡ false → i .name ≡ MSR → isCount (place i 1) ≡ true → wordOf i ≡ msrImmediateWord i
 named-msr i plain is immediate = named-status i plain (simp is) ∙ simp (is, immediate)

@@ -1,12 +1,11 @@
 -- What an instruction value holds, as the numbers of a word's fields. An operand of another kind counts as 0.
 use mathlib.Core.Bool.{Bool, true, false}
-use mathlib.Core.List.{List, [], _∷_}
 use Prim.Native.Nat.{ℕ, suc, _-_, _^_}
 use lib.IntN.{ℤ, pos, negsuc}
 use lib.ListN.{getD}
-use Rattle.insn.specs.Numbers.{shiftNumber, statusNumber, modeNumber}
+use Rattle.insn.specs.Memory.{baseDisp}
+use Rattle.insn.specs.Numbers.{shiftNumber, statusNumber}
 use Rattle.insn.specs.declared.Insn.{Insn}
-use Rattle.insn.specs.declared.Place.{Place}
 use Rattle.insn.specs.declared.Mem.{Mem}
 use Rattle.insn.specs.declared.Operand.{Operand}
 use Rattle.insn.specs.declared.Operand.the-variants.{Empty, Register, Shifted, ShiftBy, SaturateShift, Rotate, Count, Number, StatusMask, StatusSource, WriteBack, List as Operand·List, Address, Memory}
@@ -120,22 +119,6 @@ isRegister (Operand·List n) = false
 isRegister (Address n) = false
 isRegister (Memory m) = false
 
-abbrev pub isShifted : Operand → Bool
-isShifted Empty = false
-isShifted (Register r) = false
-isShifted (Shifted r k n) = true
-isShifted (ShiftBy k r) = false
-isShifted (SaturateShift k n) = false
-isShifted (Rotate n) = false
-isShifted (Count z) = false
-isShifted (Number n) = false
-isShifted (StatusMask n) = false
-isShifted (StatusSource s) = false
-isShifted (WriteBack r) = false
-isShifted (Operand·List n) = false
-isShifted (Address n) = false
-isShifted (Memory m) = false
-
 abbrev pub isShiftBy : Operand → Bool
 isShiftBy Empty = false
 isShiftBy (Register r) = false
@@ -151,22 +134,6 @@ isShiftBy (WriteBack r) = false
 isShiftBy (Operand·List n) = false
 isShiftBy (Address n) = false
 isShiftBy (Memory m) = false
-
-abbrev pub isEmpty : Operand → Bool
-isEmpty Empty = true
-isEmpty (Register r) = false
-isEmpty (Shifted r k n) = false
-isEmpty (ShiftBy k r) = false
-isEmpty (SaturateShift k n) = false
-isEmpty (Rotate n) = false
-isEmpty (Count z) = false
-isEmpty (Number n) = false
-isEmpty (StatusMask n) = false
-isEmpty (StatusSource s) = false
-isEmpty (WriteBack r) = false
-isEmpty (Operand·List n) = false
-isEmpty (Address n) = false
-isEmpty (Memory m) = false
 
 abbrev pub isWriteBack : Operand → Bool
 isWriteBack Empty = false
@@ -199,3 +166,28 @@ isAddress (WriteBack r) = false
 isAddress (Operand·List n) = false
 isAddress (Address n) = true
 isAddress (Memory m) = false
+
+-- the memory form of an operand, or one of zeros
+abbrev pub noMemory : Mem
+noMemory = baseDisp (record { 0 = 0 }) (pos 0) 0
+
+abbrev pub memory : Operand → Mem
+memory Empty = noMemory
+memory (Register r) = noMemory
+memory (Shifted r k n) = noMemory
+memory (ShiftBy k r) = noMemory
+memory (SaturateShift k n) = noMemory
+memory (Rotate n) = noMemory
+memory (Count z) = noMemory
+memory (Number n) = noMemory
+memory (StatusMask n) = noMemory
+memory (StatusSource s) = noMemory
+memory (WriteBack r) = noMemory
+memory (Operand·List n) = noMemory
+memory (Address n) = noMemory
+memory (Memory m) = m
+
+-- U: a displacement is added, or taken away
+abbrev pub up : ℤ → ℕ
+up (pos n) = 1
+up (negsuc n) = 0

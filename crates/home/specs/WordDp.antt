@@ -7,7 +7,7 @@ use lib.ListN.{getD}
 use Rattle.word.specs.Choice.{pick, both}
 use Rattle.word.specs.Layout.{join}
 use Rattle.imm.specs.Imm.{turnedLeft}
-use Rattle.insn.specs.Name.{MOVW, MOVT, NOP, RRX, RRXS, LSL, LSLS}
+use Rattle.insn.specs.Name.{MOVW, NOP, RRXS, LSL, LSLS}
 use Rattle.insn.specs.declared.Flow.{Flow}
 use Rattle.insn.specs.declared.Flow.the-variants.{Next, Branch, CondBranch, IndirectBranch, Call, IndirectCall, Return, Trap}
 use Rattle.insn.specs.declared.Insn.{Insn}

@@ -3,10 +3,9 @@ use mathlib.Core.Bool.{Bool}
 use mathlib.Core.List.{List, [], _∷_}
 use Prim.Native.Nat.{ℕ, _/_, _%_}
 use lib.Dec.{eqb, leb}
-use lib.IntN.{ℤ, pos, negsuc, natAbs}
+use lib.IntN.{ℤ, natAbs}
 use Rattle.word.specs.Choice.{pick}
 use Rattle.word.specs.Layout.{join}
-use Rattle.insn.specs.Memory.{baseDisp}
 use Rattle.insn.specs.Name.{STREX, LDREX, STREXB, LDREXB, STREXH, STRH, LDRH, LDRD, LDRSB, STRD}
 use Rattle.insn.specs.declared.AddrMode.{AddrMode}
 use Rattle.insn.specs.declared.AddrMode.the-variants.{Offset, PreIndex, PostIndex}
@@ -14,30 +13,8 @@ use Rattle.insn.specs.declared.Index.{Index}
 use Rattle.insn.specs.declared.Index.the-variants.{Absent, Left}
 use Rattle.insn.specs.declared.Insn.{Insn}
 use Rattle.insn.specs.declared.Mem.{Mem}
-use Rattle.insn.specs.declared.Operand.{Operand}
-use Rattle.insn.specs.declared.Operand.the-variants.{Empty, Register, Shifted, ShiftBy, SaturateShift, Rotate, Count, Number, StatusMask, StatusSource, WriteBack, List as Operand·List, Address, Memory}
-use Rattle.home.specs.Parts.{place, register}
+use Rattle.home.specs.Parts.{place, register, memory, up}
 use Rattle.home.specs.WordMultiply.{multiplyWord}
-
-abbrev pub none : Mem
-none = baseDisp (record { 0 = 0 }) (pos 0) 0
-
--- the memory form of an operand
-abbrev pub form : Operand → Mem
-form Empty = none
-form (Register r) = none
-form (Shifted r k n) = none
-form (ShiftBy k r) = none
-form (SaturateShift k n) = none
-form (Rotate n) = none
-form (Count z) = none
-form (Number n) = none
-form (StatusMask n) = none
-form (StatusSource s) = none
-form (WriteBack r) = none
-form (Operand·List n) = none
-form (Address n) = none
-form (Memory m) = m
 
 -- rm 1 00 1 0000 rd rn op 1 000 cond, from bit 0 up
 abbrev pub sync-layout : List ℕ
@@ -49,10 +26,10 @@ exclusive i rm m op =
     join sync-layout (rm ∷ 1 ∷ 0 ∷ 1 ∷ 0 ∷ register (place i 0) ∷ m .base .0 ∷ op ∷ 1 ∷ 0 ∷ i .cond .0 ∷ [])
 
 abbrev pub store : Insn → ℕ → ℕ
-store i op = exclusive i (register (place i 1)) (form (place i 2)) op
+store i op = exclusive i (register (place i 1)) (memory (place i 2)) op
 
 abbrev pub load : Insn → ℕ → ℕ
-load i op = exclusive i 0 (form (place i 1)) op
+load i op = exclusive i 0 (memory (place i 1)) op
 
 abbrev pub syncWord : Insn → ℕ
 syncWord i =
@@ -73,11 +50,6 @@ abbrev pub bitW : AddrMode → ℕ
 bitW Offset = 0
 bitW PreIndex = 1
 bitW PostIndex = 0
-
--- the sign of a displacement, set if it is not negative
-abbrev pub up : ℤ → ℕ
-up (pos n) = 1
-up (negsuc n) = 0
 
 -- U, with the mark of minus zero
 abbrev pub bitU : ℤ → Bool → ℕ
@@ -125,10 +97,10 @@ transfer cond rd kind l m =
 
 -- the memory form stands at place 1, and at place 2 beside a pair
 abbrev pub single : Insn → ℕ → ℕ → ℕ
-single i kind l = transfer (i .cond .0) (register (place i 0)) kind l (form (place i 1))
+single i kind l = transfer (i .cond .0) (register (place i 0)) kind l (memory (place i 1))
 
 abbrev pub pair : Insn → ℕ → ℕ → ℕ
-pair i kind l = transfer (i .cond .0) (register (place i 0)) kind l (form (place i 2))
+pair i kind l = transfer (i .cond .0) (register (place i 0)) kind l (memory (place i 2))
 
 abbrev pub transferWord : Insn → ℕ
 transferWord i =

@@ -1,5 +1,5 @@
 -- The word of a load or a store, from its answer.
-use mathlib.Core.Bool.{Bool, false}
+use mathlib.Core.Bool.{Bool}
 use mathlib.Core.List.{List, [], _∷_}
 use Prim.Native.Nat.{ℕ, suc}
 use lib.Dec.{eqb}
@@ -13,30 +13,7 @@ use Rattle.insn.specs.declared.Index.{Index}
 use Rattle.insn.specs.declared.Index.the-variants.{Absent, Left}
 use Rattle.insn.specs.declared.Insn.{Insn}
 use Rattle.insn.specs.declared.Mem.{Mem}
-use Rattle.insn.specs.declared.Operand.{Operand}
-use Rattle.insn.specs.declared.Operand.the-variants.{Empty, Register, Shifted, ShiftBy, SaturateShift, Rotate, Count, Number, StatusMask, StatusSource, WriteBack, List as Operand·List, Address, Memory}
-use Rattle.home.specs.Parts.{place, register}
-
--- the form of an operand that has none
-abbrev pub noMemory : Mem
-noMemory = record { base = record { 0 = 0 }; index = Absent; disp = pos 0; mode = Offset; size = 0; decimal = false; «minus_zero» = false }
-
--- the memory form of an operand
-abbrev pub memory : Operand → Mem
-memory Empty = noMemory
-memory (Register r) = noMemory
-memory (Shifted r k n) = noMemory
-memory (ShiftBy k r) = noMemory
-memory (SaturateShift k n) = noMemory
-memory (Rotate n) = noMemory
-memory (Count z) = noMemory
-memory (Number n) = noMemory
-memory (StatusMask n) = noMemory
-memory (StatusSource s) = noMemory
-memory (WriteBack r) = noMemory
-memory (Operand·List n) = noMemory
-memory (Address n) = noMemory
-memory (Memory m) = m
+use Rattle.home.specs.Parts.{place, register, memory}
 
 -- a displacement without its sign
 unfoldable pub magnitude : ℤ → ℕ

@@ -2,14 +2,12 @@
 use mathlib.Core.List.{List, [], _∷_}
 use Prim.Native.Nat.{ℕ, _+_, _-_, _/_, _%_, _^_}
 use lib.Dec.{eqb}
-use lib.IntN.{ℤ, pos, negsuc, natAbs}
+use lib.IntN.{natAbs}
 use Rattle.word.specs.Choice.{pick}
 use Rattle.word.specs.Layout.{join}
 use Rattle.insn.specs.Name.{LDMDA, LDM, LDMDB, LDMIB, STMDA, STM, STMDB, POP, PUSH, BL, PLDW}
 use Rattle.insn.specs.declared.Insn.{Insn}
-use Rattle.insn.specs.declared.Operand.{Operand}
-use Rattle.insn.specs.declared.Operand.the-variants.{Empty, Register, Shifted, ShiftBy, SaturateShift, Rotate, Count, Number, StatusMask, StatusSource, WriteBack, List as Operand·List, Address, Memory}
-use Rattle.home.specs.Parts.{place, register, number, isWriteBack}
+use Rattle.home.specs.Parts.{place, register, number, isWriteBack, memory, up}
 
 -- list rn L W 0 PU 100 cond, from bit 0 up
 abbrev pub blockLayout : List ℕ
@@ -57,45 +55,6 @@ branchWord i = laidBranch i (pick (eqb (i .name) BL) 1 0)
 abbrev pub blxWord : Insn → ℕ
 blxWord i = laidBranch i (offset i / 2 % 2)
 
--- the base of a memory form
-abbrev pub memoryBase : Operand → ℕ
-memoryBase Empty = 0
-memoryBase (Register r) = 0
-memoryBase (Shifted r k n) = 0
-memoryBase (ShiftBy k r) = 0
-memoryBase (SaturateShift k n) = 0
-memoryBase (Rotate n) = 0
-memoryBase (Count z) = 0
-memoryBase (Number n) = 0
-memoryBase (StatusMask n) = 0
-memoryBase (StatusSource s) = 0
-memoryBase (WriteBack r) = 0
-memoryBase (Operand·List n) = 0
-memoryBase (Address n) = 0
-memoryBase (Memory m) = m .base .0
-
--- the displacement of a memory form
-abbrev pub displacement : Operand → ℤ
-displacement Empty = pos 0
-displacement (Register r) = pos 0
-displacement (Shifted r k n) = pos 0
-displacement (ShiftBy k r) = pos 0
-displacement (SaturateShift k n) = pos 0
-displacement (Rotate n) = pos 0
-displacement (Count z) = pos 0
-displacement (Number n) = pos 0
-displacement (StatusMask n) = pos 0
-displacement (StatusSource s) = pos 0
-displacement (WriteBack r) = pos 0
-displacement (Operand·List n) = pos 0
-displacement (Address n) = pos 0
-displacement (Memory m) = m .disp
-
--- U: a displacement is added, or taken away
-abbrev pub upOf : ℤ → ℕ
-upOf (pos n) = 1
-upOf (negsuc n) = 0
-
 -- displacement 1111 rn 00 W U 0101 cond, from bit 0 up
 abbrev pub preloadLayout : List ℕ
 preloadLayout = 12 ∷ 4 ∷ 4 ∷ 2 ∷ 1 ∷ 1 ∷ 4 ∷ 4 ∷ []
@@ -103,12 +62,12 @@ preloadLayout = 12 ∷ 4 ∷ 4 ∷ 2 ∷ 1 ∷ 1 ∷ 4 ∷ 4 ∷ []
 abbrev pub preloadWord : Insn → ℕ
 preloadWord i =
     join preloadLayout
-    (natAbs (displacement (place i 0))
+    (natAbs (memory (place i 0) .disp)
     ∷ 15
-    ∷ memoryBase (place i 0)
+    ∷ memory (place i 0) .base .0
     ∷ 0
     ∷ pick (eqb (i .name) PLDW) 1 0
-    ∷ upOf (displacement (place i 0))
+    ∷ up (memory (place i 0) .disp)
     ∷ 5
     ∷ i .cond .0
     ∷ [])

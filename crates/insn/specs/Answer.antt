@@ -1,6 +1,5 @@
 -- What the decoder answers, as values (01, "What is built" and "Refusal numbers").
 use mathlib.Core.List.{List, [], _∷_}
-use mathlib.Core.Bool.{Bool, true, false}
 use Prim.Native.Nat.{ℕ}
 use lib.ListN.{set}
 use Rattle.insn.specs.declared.Cond.{Cond}

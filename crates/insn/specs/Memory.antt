@@ -1,10 +1,10 @@
 -- Memory forms (01, "What is built").
-use mathlib.Core.Bool.{true, false}
+use mathlib.Core.Bool.{false}
 use Prim.Native.Nat.{ℕ}
 use lib.IntN.{ℤ}
 use Rattle.insn.specs.declared.Reg.{Reg}
 use Rattle.insn.specs.declared.Mem.{Mem}
-use Rattle.insn.specs.declared.Index.the-variants.{Absent, Left}
+use Rattle.insn.specs.declared.Index.the-variants.{Absent}
 use Rattle.insn.specs.declared.AddrMode.the-variants.{Offset}
 
 -- offset mode, with no index and no mark

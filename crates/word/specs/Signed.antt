@@ -1,5 +1,5 @@
 -- Signed numbers: as 32 bits with wrapping sums, and as whole numbers.
-use Prim.Native.Nat.{ℕ, _+_, _-_, _*_, _%_, _^_}
+use Prim.Native.Nat.{ℕ, _+_, _-_, _%_, _^_}
 use lib.Dec.{ltb}
 use lib.IntN.{ℤ, pos, negℤ}
 use Rattle.word.specs.Choice.{pick}

@@ -1,10 +1,10 @@
 -- `home::clear` meets its contract: a word is what clearing a field leaves, and the field. Assumes nothing.
-use mathlib.Core.Path.{_≡_, sym, _∙_, ap}
+use mathlib.Core.Path.{_≡_, sym, ap}
 use borrow.Author.Needs.{needs}
 use Prim.Native.Nat.{ℕ, _+_, _-_, _*_, _%_, _^_}
 use native.Mathlib.Omega.{arith}
 use Rattle.word.proofs.One.{shifted-one}
-use Rattle.word.specs.Field.{field, clear}
+use Rattle.word.specs.Field.{field}
 use Rattle.home.proofs.Laid.{clear-none, taken}
 use Rattle.home.proofs.clear.Statement.{statement}
 use Rattle.home.proofs.clear.Tie as tie

@@ -1,9 +1,9 @@
 -- `home::raise` meets its contract. Assumes nothing.
 use mathlib.Core.Path.{_≡_, sym, _∙_}
 use borrow.Author.Needs.{needs}
-use Prim.Native.Nat.{ℕ, _+_, _^_, _<_}
+use Prim.Native.Nat.{ℕ, _+_, _^_}
 use native.Mathlib.Omega.{arith}
-use Rattle.word.specs.Field.{field, put, parted, small}
+use Rattle.word.specs.Field.{field, put}
 use Rattle.home.proofs.raise.Statement.{statement}
 use Rattle.home.proofs.raise.Tie as tie
 

@@ -1,13 +1,12 @@
 -- `word::negative` meets its contract: a number of 32 bits, negated, fits 64. Assumes nothing.
-use mathlib.Core.Path.{_≡_, refl, ap, _∙_}
+use mathlib.Core.Path.{_≡_, refl, ap}
 use borrow.Author.Needs.{needs}
 use borrow.Author.Tests.{lt-ltb}
 use Prim.Native.Nat.{ℕ, zero, suc, _<_, _^_}
 use native.Mathlib.Omega.{arith}
-use lib.IntN.{ℤ, pos, negsuc, negℤ, _-ℤ_}
-use lib.Signed.{mag}
+use lib.IntN.{pos, negsuc, negℤ, _-ℤ_}
 use mir.Syntax.{w64}
-use mir.Val.{SFits, toZ, ofZ}
+use mir.Val.{SFits}
 use mir.ValLaws.{toZ-pos, toZ-ofZ}
 use Rattle.word.proofs.negative.Statement.{statement}
 use Rattle.word.proofs.negative.Tie as tie

@@ -1,7 +1,7 @@
 -- `transfer::branch::branch_target` meets its contract. Assumes nothing.
 use borrow.Author.Needs.{needs}
 use mathlib.Core.Path.{_≡_, _∙_, ap}
-use Prim.Native.Nat.{ℕ, _+_, _*_, _%_, _^_, _<_}
+use Prim.Native.Nat.{ℕ, _+_, _%_, _^_, _<_}
 use native.Mathlib.Nat.{add-mod-mod}
 use native.Mathlib.Omega.{arith}
 use Rattle.word.specs.Field.{small}
