@@ -1,0 +1,3 @@
+pub mod Encode
+pub mod Forms
+pub mod Joined

@@ -1,0 +1,42 @@
+-- `same::same_flow` meets its contract. Assumes nothing.
+use borrow.Author.Needs.{needs}
+use mathlib.Core.Path.{sym, ap₂, _∙_}
+use lib.Dec.{eqb}
+use Rattle.same.proofs.Tests.{equal, unequal}
+use Rattle.same.proofs.same_flow.Statement.{statement}
+use Rattle.same.proofs.same_flow.Tie as tie
+
+number-requires : tie.Need-number-requires
+number-requires c κs = search needs
+
+number-requires-2 : tie.Need-number-requires-2
+number-requires-2 c κs = search needs
+
+target-requires : tie.Need-target-requires
+target-requires c κs = search needs
+
+target-requires-2 : tie.Need-target-requires-2
+target-requires-2 c κs = search needs
+
+returns : tie.Need-returns
+returns c =
+    equal
+    (sym (c .before .before .before .before .number .ensures)
+    ∙ c .before .before .if1 .taken
+    ∙ c .before .before .before .number2 .ensures)
+    (ap₂ eqb (c .before .target .ensures) (c .target2 .ensures))
+
+returns-2 : tie.Need-returns-2
+returns-2 c =
+    unequal _ λ e. c .if1 .left (c .before .before .number .ensures ∙ e ∙ sym (c .before .number2 .ensures))
+
+pub same-flow-spec : {M : Type 1} → statement M
+same-flow-spec =
+    tie.close
+    (tie.spec
+    number-requires
+    number-requires-2
+    target-requires
+    target-requires-2
+    returns
+    returns-2)
