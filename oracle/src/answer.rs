@@ -1,4 +1,7 @@
 //! What an answer holds (01, "What is built"), and the numbers that stand for it in a digest.
+//!
+//! The fields are as wide as those of the proved code's instruction value, so that a value need not
+//! be any word's answer.
 
 /// The answer to a word at an address.
 #[derive(Debug, Clone, Copy, PartialEq, Eq)]
@@ -8,13 +11,13 @@ pub enum Answer {
     Accepted(Instruction),
 }
 
-/// An accepted word.
+/// An instruction value: the answer to an accepted word, or what the encoder is asked for.
 #[derive(Debug, Clone, Copy, PartialEq, Eq)]
 pub struct Instruction {
     pub address: u64,
-    /// The place of its root in `names::ROOTS`.
-    pub name: u8,
-    /// The word's own bits 31:28.
+    /// The place of its root in `names::ROOTS`, if there is one.
+    pub name: u16,
+    /// The word's own bits 31:28, if it is a word's.
     pub condition: u8,
     pub flow: Flow,
     pub operands: [Operand; PLACES],
@@ -27,16 +30,17 @@ pub const PLACES: usize = 4;
 #[derive(Debug, Clone, Copy, PartialEq, Eq)]
 pub enum Flow {
     Next,
-    Branch(u64),
-    ConditionalBranch(u64),
+    Branch(u32),
+    ConditionalBranch(u32),
     IndirectBranch,
-    Call(u64),
+    Call(u32),
     IndirectCall,
     Return,
     Trap,
 }
 
-/// What an operand place holds. A register is its number, a shift kind its place in `names::SHIFTS`.
+/// What an operand place holds. A register is its number. A shift kind is its place in
+/// `names::SHIFTS`, a status source its place in `names::STATUS_SOURCES`: there are no others.
 #[derive(Debug, Clone, Copy, PartialEq, Eq)]
 pub enum Operand {
     Empty,
@@ -46,12 +50,12 @@ pub enum Operand {
     SaturateShift { kind: u8, amount: u8 },
     Rotate(u8),
     Count(i64),
-    Number(u64),
+    Number(u32),
     StatusMask(u8),
     StatusSource(u8),
     WriteBack(u8),
     List(u16),
-    Address(u64),
+    Address(u32),
     Memory(Memory),
 }
 
@@ -131,14 +135,23 @@ impl Instruction {
 }
 
 impl Flow {
+    pub fn target(self) -> Option<u32> {
+        match self {
+            Flow::Branch(target) | Flow::ConditionalBranch(target) | Flow::Call(target) => {
+                Some(target)
+            }
+            _ => None,
+        }
+    }
+
     /// Its own number, and its target or 0.
-    fn numbers(self) -> [u64; 2] {
+    pub fn numbers(self) -> [u64; 2] {
         match self {
             Flow::Next => [0, 0],
-            Flow::Branch(target) => [1, target],
-            Flow::ConditionalBranch(target) => [2, target],
+            Flow::Branch(target) => [1, target.into()],
+            Flow::ConditionalBranch(target) => [2, target.into()],
             Flow::IndirectBranch => [3, 0],
-            Flow::Call(target) => [4, target],
+            Flow::Call(target) => [4, target.into()],
             Flow::IndirectCall => [5, 0],
             Flow::Return => [6, 0],
             Flow::Trap => [7, 0],
@@ -165,12 +178,12 @@ impl Operand {
                 let [upper, lower] = halves(count);
                 all(&[6, upper, lower]);
             }
-            Operand::Number(number) => all(&[7, number]),
+            Operand::Number(number) => all(&[7, number.into()]),
             Operand::StatusMask(mask) => all(&[8, mask.into()]),
             Operand::StatusSource(source) => all(&[9, source.into()]),
             Operand::WriteBack(register) => all(&[10, register.into()]),
             Operand::List(list) => all(&[11, list.into()]),
-            Operand::Address(address) => all(&[12, address]),
+            Operand::Address(address) => all(&[12, address.into()]),
             Operand::Memory(memory) => all(&memory.numbers()),
         }
     }
@@ -183,11 +196,6 @@ impl Memory {
             Some(Index { register, shift }) => (1, register, shift),
             None => (0, 0, 0),
         };
-        let mode = match self.mode {
-            Mode::Offset => 0,
-            Mode::Pre => 1,
-            Mode::Post => 2,
-        };
         let [upper, lower] = halves(self.displacement);
         [
             13,
@@ -197,11 +205,21 @@ impl Memory {
             shift.into(),
             upper,
             lower,
-            mode,
+            self.mode.number(),
             self.size.into(),
             self.decimal.into(),
             self.minus_zero.into(),
         ]
+    }
+}
+
+impl Mode {
+    pub fn number(self) -> u64 {
+        match self {
+            Mode::Offset => 0,
+            Mode::Pre => 1,
+            Mode::Post => 2,
+        }
     }
 }
 

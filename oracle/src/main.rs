@@ -6,16 +6,25 @@ extern crate self as e5r_core;
 mod addr;
 mod answer;
 mod bench;
+mod cores;
+mod damage;
 mod digest;
+mod home;
 mod line;
+mod made;
 mod names;
 mod oracle;
 mod proved;
+mod random;
+mod reports;
+mod row;
 mod sweep;
+mod trip;
+mod values;
 mod words;
 
 // The Rust's files, with the shims among them: they have more than the oracle calls.
-#[allow(dead_code, unused_imports)]
+#[allow(dead_code, unused_imports, clippy::default_constructed_unit_structs)]
 mod arm;
 #[allow(dead_code)]
 mod insn;
@@ -28,15 +37,17 @@ pub use addr::Addr;
 use answer::Answer;
 use line::Line;
 use oracle::Oracle;
-use proved::DIGEST;
+use proved::{PROVED, Proved};
 use words::hex;
 
 const USAGE: &str = "\
-modes of the oracle (numbers are hexadecimal; no SET is every word):
+modes of the oracle (numbers are hexadecimal, but those of values; no SET is every word):
   lines                reads lines of address, tab, word; adds the line of the listing to each
   answers              reads the same; prints what the program `answers` prints of each
   count [SET]          counts what the Rust accepts and refuses
   sweep ADDRESS [SET]  compares the Rust with the proved code, word by word
+  trip ADDRESS [SET]   has the proved code decode and encode each word, which gives its home word
+  values COUNT SEED    has the proved code encode made-up values (both numbers in base ten)
   bench                times the Rust and the proved code
   SET                  FIRST COUNT, or 'branches'";
 
@@ -58,17 +69,42 @@ fn run(arguments: &[&str]) -> Result<ExitCode, String> {
         ["answers"] => each_word(answers_line)?,
         ["count", set @ ..] => println!("{}", sweep::count(&words::set(set)?)),
         ["sweep", address, set @ ..] => {
-            let proved = DIGEST.ok_or("sweep needs the proved code, which PROVED is to name")?;
-            let (tally, differences) = sweep::sweep(proved, hex(address)?, &words::set(set)?);
+            let (tally, differences) = sweep::sweep(proved()?, hex(address)?, &words::set(set)?);
             println!("{tally}\n{differences} differences");
-            if differences != 0 {
-                return Ok(ExitCode::FAILURE);
-            }
+            return Ok(success_if(differences == 0));
+        }
+        ["trip", address, set @ ..] => {
+            let (tally, differences) = trip::trip(proved()?, hex(address)?, &words::set(set)?);
+            println!("{tally}\n{differences} differences");
+            return Ok(success_if(differences == 0));
+        }
+        ["values", count, seed] => {
+            let (tally, failures) = values::values(proved()?, decimal(count)?, decimal(seed)?);
+            println!("{tally}\n{failures} failures");
+            return Ok(success_if(failures == 0));
         }
         ["bench"] => bench::bench(),
         _ => return Err(USAGE.to_string()),
     }
     Ok(ExitCode::SUCCESS)
+}
+
+fn proved() -> Result<Proved, String> {
+    PROVED.ok_or("this mode needs the proved code, whose folder PROVED is to name".to_string())
+}
+
+fn success_if(success: bool) -> ExitCode {
+    if success {
+        ExitCode::SUCCESS
+    } else {
+        ExitCode::FAILURE
+    }
+}
+
+/// A number in base ten.
+fn decimal(text: &str) -> Result<u64, String> {
+    text.parse()
+        .map_err(|why| format!("'{text}' in base ten: {why}"))
 }
 
 /// Prints what `spell` makes of each address and word on standard input, and of the answer to it.

@@ -11,7 +11,7 @@ use crate::names::{REGISTERS, ROOTS, SHIFTS, STATUS_MASKS, STATUS_SOURCES, SUFFI
 /// The Rust decoder, with what it was seen to hand out.
 pub struct Oracle {
     /// By condition: one mnemonic may not stand for another condition's.
-    names: [Known<u8>; 16],
+    names: [Known<u16>; 16],
     named_operands: Known<Operand>,
 }
 
@@ -51,7 +51,7 @@ impl Oracle {
             address: insn.addr.get(),
             name: self.names[condition as usize].meaning(insn.mnemonic, |mnemonic| {
                 let root = mnemonic.strip_suffix(SUFFIXES[condition as usize])?;
-                place_in(&ROOTS, root)
+                place_in(&ROOTS, root).map(u16::from)
             })?,
             condition: condition as u8,
             flow: flow(insn.flow)?,
@@ -72,9 +72,9 @@ impl Oracle {
                 amount,
             },
             insn::Operand::Count(count) => Operand::Count(count),
-            insn::Operand::UImm(number) => Operand::Number(number),
+            insn::Operand::UImm(number) => Operand::Number(number.try_into().ok()?),
             insn::Operand::Sys(list) => Operand::List(list.try_into().ok()?),
-            insn::Operand::Addr(address) => Operand::Address(address.get()),
+            insn::Operand::Addr(address) => Operand::Address(target(address)?),
             insn::Operand::Mem(mem) => Operand::Memory(memory(&mem)?),
             insn::Operand::Name(name) => self.named_operands.meaning(name, named_operand)?,
             _ => return None,
@@ -90,15 +90,20 @@ fn is_coprocessor(word: u32) -> bool {
 fn flow(flow: insn::Flow) -> Option<Flow> {
     Some(match flow {
         insn::Flow::Next => Flow::Next,
-        insn::Flow::Branch(target) => Flow::Branch(target.get()),
-        insn::Flow::CondBranch(target) => Flow::ConditionalBranch(target.get()),
+        insn::Flow::Branch(to) => Flow::Branch(target(to)?),
+        insn::Flow::CondBranch(to) => Flow::ConditionalBranch(target(to)?),
         insn::Flow::IndirectBranch => Flow::IndirectBranch,
-        insn::Flow::Call(target) => Flow::Call(target.get()),
+        insn::Flow::Call(to) => Flow::Call(target(to)?),
         insn::Flow::IndirectCall => Flow::IndirectCall,
         insn::Flow::Return => Flow::Return,
         insn::Flow::Trap => Flow::Trap,
         insn::Flow::Syscall => return None,
     })
+}
+
+/// A target, of which 01 says that it has 32 bits.
+fn target(address: Addr) -> Option<u32> {
+    address.get().try_into().ok()
 }
 
 /// The number of a core register, as the Rust itself makes one.

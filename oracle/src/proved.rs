@@ -1,16 +1,85 @@
 //! The proved code, where the build was given it.
 
-/// Folds the answers to `count` words from `first` on, all at `address`, into `h`, which is below
-/// the digest's modulus; no word lies beyond the last one.
-pub type Digest = extern "C" fn(h: u64, first: u32, count: u32, address: u64) -> u64;
+use std::fmt::{self, Display, Formatter};
 
-#[cfg(proved)]
-unsafe extern "C" {
-    safe fn digest(h: u64, first: u32, count: u32, address: u64) -> u64;
+use crate::row::Row;
+
+/// What the crates `digest` and `trip` have to call.
+#[derive(Clone, Copy)]
+pub struct Proved {
+    /// Folds the answers to `count` words from `first` on, all at `address`, into `h`, which is
+    /// below the digest's modulus; no word lies beyond the last one.
+    pub digest: extern "C" fn(h: u64, first: u32, count: u32, address: u64) -> u64,
+    /// Decodes a word at an address, and encodes the answer. Gives what `Coded::of` reads.
+    pub trip: extern "C" fn(word: u32, address: u64) -> u64,
+    /// Decodes alone: the refusal, and in the word's place the name number.
+    pub named: extern "C" fn(word: u32, address: u64) -> u64,
+    /// Encodes the value of a row. Gives what `Coded::of` reads.
+    pub encode: fn(row: &Row) -> u64,
+}
+
+/// What encoding gives: a word beside no refusal, or a refusal's number beside word 0.
+#[derive(Debug, Clone, Copy, PartialEq, Eq)]
+pub struct Coded {
+    pub refusal: u32,
+    pub word: u32,
+}
+
+impl Coded {
+    /// The refusal's number stands above the word's 32 bits.
+    pub fn of(number: u64) -> Coded {
+        Coded {
+            refusal: (number >> 32) as u32,
+            word: number as u32,
+        }
+    }
+
+    pub fn word(word: u32) -> Coded {
+        Coded { refusal: 0, word }
+    }
+
+    pub fn refused(refusal: u8) -> Coded {
+        Coded {
+            refusal: refusal.into(),
+            word: 0,
+        }
+    }
+}
+
+impl Display for Coded {
+    fn fmt(&self, f: &mut Formatter) -> fmt::Result {
+        match *self {
+            Coded { refusal: 0, word } => write!(f, "{word:08x}"),
+            Coded { refusal, word: 0 } => write!(f, "refused {refusal}"),
+            Coded { refusal, word } => write!(f, "refused {refusal} beside {word:08x}"),
+        }
+    }
 }
 
 #[cfg(proved)]
-pub const DIGEST: Option<Digest> = Some(digest);
+pub const PROVED: Option<Proved> = Some(Proved {
+    digest: linked::digest,
+    trip: linked::trip,
+    named: linked::named,
+    encode: linked::encode,
+});
 
 #[cfg(not(proved))]
-pub const DIGEST: Option<Digest> = None;
+pub const PROVED: Option<Proved> = None;
+
+#[cfg(proved)]
+mod linked {
+    use crate::row::Row;
+
+    unsafe extern "C" {
+        pub safe fn digest(h: u64, first: u32, count: u32, address: u64) -> u64;
+        pub safe fn trip(word: u32, address: u64) -> u64;
+        pub safe fn named(word: u32, address: u64) -> u64;
+        fn encode_row(row: *const u64, numbers: usize) -> u64;
+    }
+
+    pub fn encode(row: &Row) -> u64 {
+        // Safety: Rattle's `&[u64]` is a pointer and how many numbers it points at, and is only read.
+        unsafe { encode_row(row.as_ptr(), row.len()) }
+    }
+}

@@ -2,18 +2,15 @@
 
 use std::fmt::{self, Display, Formatter};
 use std::iter::Sum;
-use std::sync::atomic::{AtomicU64, AtomicUsize, Ordering};
-use std::thread;
 
 use crate::answer::Answer;
+use crate::cores::on_every_core;
 use crate::digest::{START, fold};
 use crate::line::Line;
 use crate::oracle::Oracle;
-use crate::proved::Digest;
+use crate::proved::Proved;
+use crate::reports::Reports;
 use crate::words::Block;
-
-/// How many differences are printed; the rest are only counted.
-const SHOWN: u64 = 20;
 
 /// How many words were accepted and refused.
 #[derive(Default)]
@@ -53,7 +50,7 @@ impl Display for Tally {
 
 /// The oracle's tally of a set of words.
 pub fn count(blocks: &[Block]) -> Tally {
-    on_every_core(blocks, |oracle, block, tally| {
+    on_every_core(blocks, |oracle, &block, tally: &mut Tally| {
         for word in block.words() {
             tally.add(&oracle.answer(word, 0));
         }
@@ -61,43 +58,24 @@ pub fn count(blocks: &[Block]) -> Tally {
 }
 
 /// The oracle's tally of a set of words, all at `address`, and how often `proved` differs.
-pub fn sweep(proved: Digest, address: u64, blocks: &[Block]) -> (Tally, u64) {
+pub fn sweep(proved: Proved, address: u64, blocks: &[Block]) -> (Tally, u64) {
     let comparison = Comparison {
         proved,
         address,
-        differences: AtomicU64::new(0),
+        differences: Reports::new(),
     };
-    let tally = on_every_core(blocks, |oracle, block, tally| {
+    let tally = on_every_core(blocks, |oracle, &block, tally: &mut Tally| {
         if comparison.differs(oracle, block, |answer| tally.add(answer)) {
             comparison.narrow(oracle, block);
         }
     });
-    (tally, comparison.differences.into_inner())
-}
-
-/// Does `work` on each block, with an oracle for each core, and adds up the tallies.
-fn on_every_core(blocks: &[Block], work: impl Fn(&mut Oracle, Block, &mut Tally) + Sync) -> Tally {
-    let next = AtomicUsize::new(0);
-    let worker = || {
-        let mut oracle = Oracle::new();
-        let mut tally = Tally::default();
-        while let Some(&block) = blocks.get(next.fetch_add(1, Ordering::Relaxed)) {
-            work(&mut oracle, block, &mut tally);
-        }
-        tally
-    };
-    let cores = thread::available_parallelism().map_or(1, |cores| cores.get());
-    thread::scope(|scope| {
-        let workers: Vec<_> = (0..cores).map(|_| scope.spawn(worker)).collect();
-        let tallies = workers.into_iter().map(|worker| worker.join());
-        tallies.map(|tally| tally.expect("a worker ends")).sum()
-    })
+    (tally, comparison.differences.count())
 }
 
 struct Comparison {
-    proved: Digest,
+    proved: Proved,
     address: u64,
-    differences: AtomicU64,
+    differences: Reports,
 }
 
 impl Comparison {
@@ -109,7 +87,7 @@ impl Comparison {
             see(&answer);
             h = fold(h, &answer);
         }
-        h != (self.proved)(START, block.first, block.count, self.address)
+        h != (self.proved.digest)(START, block.first, block.count, self.address)
     }
 
     /// Finds each word that makes a block differ, by halving.
@@ -130,13 +108,13 @@ impl Comparison {
     }
 
     fn report(&self, oracle: &mut Oracle, word: u32, how: &str) {
-        if self.differences.fetch_add(1, Ordering::Relaxed) < SHOWN {
+        self.differences.add(|| {
             let line = Line {
                 address: self.address,
                 word,
                 answer: oracle.answer(word, self.address),
             };
-            println!("{how}: {line}");
-        }
+            format!("{how}: {line}")
+        });
     }
 }

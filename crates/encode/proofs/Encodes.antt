@@ -19,7 +19,8 @@ use Rattle.home.proofs.Same.{home-decodes, home-small, leads-back}
 use Rattle.same.specs.Same.{sameOf}
 use Rattle.same.proofs.Exact.{same-is}
 use Rattle.encode.specs.declared.Encoded.{Encoded}
-use Rattle.encode.specs.Encode.{checked, candidate, encodeOf}
+use Rattle.words.specs.Candidate.{candidate}
+use Rattle.encode.specs.Encode.{checked, encodeOf}
 
 -- what the code gives of the word it finds and that word's answer
 pub encoded : (i : Insn) {w : ℕ} {d : Decoded} {r : Encoded} → w ≡ candidate i → d ≡ decodeOf w (i .addr) → r ≡ checked i w d → r ≡ encodeOf i

@@ -1,12 +1,12 @@
 -- The word of an instruction value, or refusal 4: "encoding, no word in demand 2's range has this answer".
-use Prim.Native.Nat.{ℕ, _%_, _^_}
+use Prim.Native.Nat.{ℕ}
 use lib.Dec.{eqb}
 use Rattle.word.specs.Choice.{pick}
 use Rattle.insn.specs.declared.Decoded.{Decoded}
 use Rattle.insn.specs.declared.Insn.{Insn}
 use Rattle.a32.specs.Decode.{decodeOf}
-use Rattle.home.specs.Word.{wordOf}
 use Rattle.same.specs.Same.{sameOf}
+use Rattle.words.specs.Candidate.{candidate}
 use Rattle.encode.specs.declared.Encoded.{Encoded}
 
 abbrev pub refused4 : Encoded
@@ -15,10 +15,6 @@ refused4 = record { refusal = 4; word = 0 }
 -- the word w, if its answer d is the value
 abbrev pub checked : Insn → ℕ → Decoded → Encoded
 checked i w d = pick (eqb (d .refusal) 0) (pick (sameOf (d .insn) i) (record { refusal = 0; word = w }) refused4) refused4
-
--- the word that the value leads to, in 32 bits
-abbrev pub candidate : Insn → ℕ
-candidate i = wordOf i % 2 ^ 32
 
 -- the candidate, if it has the value for its answer at the value's address; if it has not, no word has (`refuses-exactly`)
 abbrev pub encodeOf : Insn → Encoded

@@ -1,3 +1,1 @@
 pub mod Encode
-pub mod Forms
-pub mod Joined

@@ -1,41 +1,11 @@
 //! The encoder: an instruction value's word is put together from its name and operands, and the decoder says whether it
 //! has that value for its answer.
-use crate::parts::is_address_at;
-use crate::parts::is_count_at;
-use crate::word_dp::dp_word;
-use crate::word_dp::msr_immediate_word;
-use crate::word_dp::wide_word;
-use crate::word_extra::extra_word;
-use crate::word_ldst::ldst_word;
-use crate::word_media::media_word;
-use crate::word_misc::misc_word;
-use crate::word_transfer::block_word;
-use crate::word_transfer::blx_word;
-use crate::word_transfer::branch_word;
-use crate::word_transfer::preload_word;
 use a32::decode;
 use insn::Insn;
-use insn::name;
 use same::same;
+use words::word_of;
 ghost use mathlib.Core.Path.{_≡_};
-ghost use Prim.Native.Nat.{_%_, _^_};
-ghost use lib.Dec.{eqb};
-ghost use Rattle.word.specs.Choice.{pick};
-ghost use Rattle.insn.specs.Name.{BLX};
-ghost use Rattle.home.specs.Word as W;
-ghost use Rattle.home.specs.WordTransfer.{blxWord, branchWord};
-ghost use Rattle.encode.specs.Encode.{candidate, encodeOf, refused4};
-
-pub mod form;
-pub mod join;
-pub mod parts;
-pub mod word_dp;
-pub mod word_extra;
-pub mod word_ldst;
-pub mod word_media;
-pub mod word_misc;
-pub mod word_multiply;
-pub mod word_transfer;
+ghost use Rattle.encode.specs.Encode.{encodeOf, refused4};
 
 /// The refusal of an instruction value that no word in range has for its answer.
 pub const NO_WORD: u8 = 4;
@@ -73,63 +43,4 @@ fn refuse() -> Encoded
         refusal: NO_WORD,
         word: 0,
     }
-}
-
-/// Msr has one form in two groups.
-fn status_word(i: Insn) -> u32
-    ensures { λ r. ⌜ r ≡ W.statusWord i % 2 ^ 32 ⌝ }
-{
-    let n = i.name;
-    if n == name::MSR {
-        if is_count_at(i, 1) {
-            msr_immediate_word(i)
-        } else {
-            misc_word(i)
-        }
-    } else {
-        misc_word(i)
-    }
-}
-
-fn address_word(i: Insn) -> u32
-    ensures { λ r. ⌜ r ≡ pick (eqb (i .name) BLX) (blxWord i) (branchWord i) % 2 ^ 32 ⌝ }
-{
-    let n = i.name;
-    if n == name::BLX {
-        blx_word(i)
-    } else {
-        branch_word(i)
-    }
-}
-
-/// By the last name of each group, in the order of the numbers.
-pub fn word_of(i: Insn) -> u32
-    ensures { λ r. ⌜ r ≡ candidate i ⌝ }
-{
-    let n = i.name;
-    if is_address_at(i, 0) {
-        return address_word(i);
-    }
-    if n <= name::RRX {
-        return dp_word(i);
-    }
-    if n <= name::BKPT {
-        return status_word(i);
-    }
-    if n <= name::LDRSH {
-        return extra_word(i);
-    }
-    if n <= name::SEV {
-        return wide_word(i);
-    }
-    if n <= name::STRBT {
-        return ldst_word(i);
-    }
-    if n <= name::UXTAH {
-        return media_word(i);
-    }
-    if n <= name::PUSH {
-        return block_word(i);
-    }
-    preload_word(i)
 }

@@ -17,7 +17,7 @@ use Rattle.home.specs.Table.{ignored, MUL-ROW, ALL-READ}
 use Rattle.home.specs.Home.{clearAll, extraRow}
 use Rattle.home.specs.Parts.{memory}
 use Rattle.home.specs.WordExtra.{extra-layout, bitP, bitW, bitU, transfer, extraWord}
-use Rattle.home.proofs.Leads.{apart, Leads, split, bit-cases, two-cases, refusal}
+use Rattle.home.proofs.Leads.{apart, Leads, split, bit-cases, two-cases, refusal, magnitude}
 use Rattle.home.proofs.Digits.{upper, lower}
 use Rattle.home.proofs.BackMultiply.{mul-leads, rest-leads}
 use Rattle.home.proofs.BackSync.{sync-keeps, sync-leads}
@@ -32,11 +32,6 @@ extra-keeps w addr group seven four =
     (λ p. split (eqb (field w 21 3) 0) (λ op. simp (apart, kind, p, op)) (λ op. simp (kind, p, op)))
     (sync-keeps w addr (eqb-true _ 0 kind)))
     (λ kind. split (eqb (field w 22 1) 0) (λ i. simp (apart, kind, i)) (λ i. simp (kind, i)))
-
--- a displacement of either sign, read back
-magnitude : (n : ℕ) → natAbs (minus n) ≡ n
-magnitude zero = refl
-magnitude (suc n) = refl
 
 down : (n : ℕ) → bitU (minus n) (eqb n 0) ≡ 0
 down zero = refl

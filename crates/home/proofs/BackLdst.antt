@@ -6,6 +6,7 @@ use Prim.Native.Nat.{ℕ, zero, suc, _+_, _^_, _<_}
 use native.Mathlib.Omega.{arith}
 use borrow.Author.Tests.{eqb-true, eqb-false}
 use lib.Dec.{eqb}
+use lib.IntN.{natAbs}
 use Rattle.word.specs.Choice.{pick}
 use Rattle.word.specs.Field.{field, put, small, splits}
 use Rattle.word.specs.Layout.{join, whole}
@@ -13,23 +14,19 @@ use Rattle.word.specs.Signed.{minus}
 use Rattle.ldst.specs.Mem.{unprivilegedOf, modeOf, postOf, dispOf, minusZeroOf}
 use Rattle.ldst.specs.Ldst.{nameOf, refusedIndexOf, markedOf, ldstOf}
 use Rattle.home.specs.Home.{raisesOf, raised}
-use Rattle.home.specs.WordLdst.{magnitude, upBit, loadBit, byteBit, userBit, beforeBit, writeBit, immediateLayout, indexLayout, ldstWord}
-use Rattle.home.proofs.Leads.{apart, Leads, inside, split, bit-cases, refusal, fails, raised-above, raised-below, raised-small}
+use Rattle.home.specs.Parts.{up}
+use Rattle.home.specs.WordExtra.{bitP, bitU}
+use Rattle.home.specs.WordLdst.{loadBit, byteBit, userBit, writeBit, immediateLayout, indexLayout, ldstWord}
+use Rattle.home.proofs.Leads.{apart, Leads, inside, split, bit-cases, magnitude, refusal, fails, raised-above, raised-below, raised-small}
 
 -- 27:25 is 27:26 and bit 25
 form : (w b : ℕ) → field w 26 2 ≡ 1 → field w 25 1 ≡ b → field w 25 3 ≡ 2 + b
 form w b h l = omega (arith, splits w 25 2 1)
 
-magnitude-minus : (n : ℕ) → magnitude (minus n) ≡ n
-unfolding magnitude
-magnitude-minus zero = refl
-magnitude-minus (suc n) = refl
-
 -- a displacement below 0 is subtracted
-minus-down : (n : ℕ) (mark : Bool) → eqb n 0 ≡ false → upBit (minus n) mark ≡ 0
-unfolding upBit
-minus-down zero mark h = absurd (eqb-false 0 0 h refl)
-minus-down (suc n) mark h = refl
+minus-down : (n : ℕ) → eqb n 0 ≡ false → up (minus n) ≡ 0
+minus-down zero h = absurd (eqb-false 0 0 h refl)
+minus-down (suc n) h = refl
 
 module _ (w : ℕ) where
   -- what a name tells
@@ -46,8 +43,7 @@ module _ (w : ℕ) where
       (λ l. bit-cases w 22 (λ b. simp (t, l, b) (refl, refl, refl, refl)) (λ b. simp (t, l, b) (refl, refl, refl, refl)))
       (λ l. bit-cases w 22 (λ b. simp (t, l, b) (refl, refl, refl, refl)) (λ b. simp (t, l, b) (refl, refl, refl, refl))))
 
-  before-back : beforeBit (modeOf w) ≡ field w 24 1
-  unfolding beforeBit
+  before-back : bitP (modeOf w) ≡ field w 24 1
   before-back = bit-cases w 24 (λ p. simp p) (λ p. bit-cases w 21 (λ b. simp (p, b)) (λ b. simp (p, b)))
 
   user-back : field w 24 1 ≡ 0 → pick (unprivilegedOf w) 1 0 ≡ field w 21 1
@@ -61,22 +57,21 @@ module _ (w : ℕ) where
       (λ p. simp p (name-tells .2 ∙ user-back p))
       (λ p. bit-cases w 21 (λ b. simp (p, b)) (λ b. simp (p, b)))
 
-  magnitude-back : (off : ℕ) → magnitude (dispOf w off) ≡ off
-  unfolding magnitude
-  magnitude-back off = bit-cases w 23 (λ u. simp u (magnitude-minus off)) (λ u. simp u)
+  magnitude-back : (off : ℕ) → natAbs (dispOf w off) ≡ off
+  magnitude-back off = bit-cases w 23 (λ u. simp u (magnitude off)) (λ u. simp u)
 
   -- U, from the sign of a displacement that is not 0 and the mark of one that is; in offset mode the home word has it set
   abbrev Up : Type 0
-  Up = upBit (dispOf w (field w 0 12)) (markedOf w (field w 0 12)) ≡ field (raised (raisesOf w) w) 23 1
+  Up = bitU (dispOf w (field w 0 12)) (markedOf w (field w 0 12)) ≡ field (raised (raisesOf w) w) 23 1
 
   up-back : eqb (field w 28 4) 15 ≡ false → field w 25 3 ≡ 2 → Up
-  unfolding upBit markedOf minusZeroOf raisesOf
+  unfolding markedOf minusZeroOf raisesOf
   up-back cond imm = split (eqb (field w 0 12) 0) (λ z. none (eqb-true _ 0 z)) some
     where
       some : eqb (field w 0 12) 0 ≡ false → Up
       some z =
           bit-cases w 23
-          (λ u. simp (u, z) (minus-down (field w 0 12) _ z))
+          (λ u. simp (u, z, fails, minus-down (field w 0 12) z))
           (λ u. simp (u, z, fails))
 
       none : field w 0 12 ≡ 0 → Up

@@ -1,12 +1,14 @@
 -- What is shown of each group of rows, and how its proofs go by cases. Assumes nothing.
 use mathlib.Core.Path.{_≡_, refl, ap, sym, _∙_, subst}
 use mathlib.Core.Bool.{Bool, true, false, not}
-use Prim.Native.Nat.{ℕ, suc, _+_, _^_, _<_, Ordering, compare·suc-zero}
+use Prim.Native.Nat.{ℕ, zero, suc, _+_, _^_, _<_, Ordering, compare·suc-zero}
 use native.Mathlib.Omega.{arith}
 use borrow.Author.Tests.{eqb-true, eqb-false}
 use lib.Dec.{T, eqb, leb, isEq}
+use lib.IntN.{natAbs}
 use Rattle.word.specs.Choice.{both}
 use Rattle.word.specs.Field.{field, put, small, keeps-above, keeps-below, cleared, put-above, put-below, put-at}
+use Rattle.word.specs.Signed.{minus}
 use Rattle.insn.specs.declared.Decoded.{Decoded}
 use Rattle.insn.specs.declared.Insn.{Insn}
 use Rattle.home.specs.Home.{raised}
@@ -31,13 +33,18 @@ split false passed failed = failed refl
 
 -- a bit is set or clear
 pub bit-cases {ℓ} : {A : Type ℓ} (w n : ℕ) → (field w n 1 ≡ 0 → A) → (field w n 1 ≡ 1 → A) → A
-bit-cases w n zero one =
+bit-cases w n off on =
     split (eqb (field w n 1) 0)
-    (λ e. zero (eqb-true (field w n 1) 0 e))
-    (λ e. one (set (eqb-false (field w n 1) 0 e)))
+    (λ e. off (eqb-true (field w n 1) 0 e))
+    (λ e. on (set (eqb-false (field w n 1) 0 e)))
   where
     set : (field w n 1 ≡ 0 → ⊥) → field w n 1 ≡ 1
     set h = omega (arith, small w n 1)
+
+-- a displacement without its sign
+pub magnitude : (n : ℕ) → natAbs (minus n) ≡ n
+magnitude zero = refl
+magnitude (suc n) = refl
 
 -- an answer that is refused is not accepted
 pub refusal {ℓ} : {A : Type ℓ} {n : ℕ} → suc n ≡ 0 → A

@@ -1,10 +1,11 @@
 -- What an instruction value holds, as the numbers of a word's fields. An operand of another kind counts as 0.
-use mathlib.Core.Bool.{Bool, true, false}
+use mathlib.Core.Bool.{Bool}
 use Prim.Native.Nat.{ℕ, suc, _-_, _^_}
+use lib.Dec.{eqb}
 use lib.IntN.{ℤ, pos, negsuc}
 use lib.ListN.{getD}
 use Rattle.insn.specs.Memory.{baseDisp}
-use Rattle.insn.specs.Numbers.{shiftNumber, statusNumber}
+use Rattle.insn.specs.Numbers.{shiftNumber, statusNumber, operandNumber}
 use Rattle.insn.specs.declared.Insn.{Insn}
 use Rattle.insn.specs.declared.Mem.{Mem}
 use Rattle.insn.specs.declared.Operand.{Operand}
@@ -87,85 +88,21 @@ number (Operand·List n) = n
 number (Address n) = n
 number (Memory m) = 0
 
-abbrev pub isCount : Operand → Bool
-isCount Empty = false
-isCount (Register r) = false
-isCount (Shifted r k n) = false
-isCount (ShiftBy k r) = false
-isCount (SaturateShift k n) = false
-isCount (Rotate n) = false
-isCount (Count z) = true
-isCount (Number n) = false
-isCount (StatusMask n) = false
-isCount (StatusSource s) = false
-isCount (WriteBack r) = false
-isCount (Operand·List n) = false
-isCount (Address n) = false
-isCount (Memory m) = false
-
+-- an operand of a kind, by its number
 abbrev pub isRegister : Operand → Bool
-isRegister Empty = false
-isRegister (Register r) = true
-isRegister (Shifted r k n) = false
-isRegister (ShiftBy k r) = false
-isRegister (SaturateShift k n) = false
-isRegister (Rotate n) = false
-isRegister (Count z) = false
-isRegister (Number n) = false
-isRegister (StatusMask n) = false
-isRegister (StatusSource s) = false
-isRegister (WriteBack r) = false
-isRegister (Operand·List n) = false
-isRegister (Address n) = false
-isRegister (Memory m) = false
+isRegister o = eqb (operandNumber o) 1
 
 abbrev pub isShiftBy : Operand → Bool
-isShiftBy Empty = false
-isShiftBy (Register r) = false
-isShiftBy (Shifted r k n) = false
-isShiftBy (ShiftBy k r) = true
-isShiftBy (SaturateShift k n) = false
-isShiftBy (Rotate n) = false
-isShiftBy (Count z) = false
-isShiftBy (Number n) = false
-isShiftBy (StatusMask n) = false
-isShiftBy (StatusSource s) = false
-isShiftBy (WriteBack r) = false
-isShiftBy (Operand·List n) = false
-isShiftBy (Address n) = false
-isShiftBy (Memory m) = false
+isShiftBy o = eqb (operandNumber o) 3
+
+abbrev pub isCount : Operand → Bool
+isCount o = eqb (operandNumber o) 6
 
 abbrev pub isWriteBack : Operand → Bool
-isWriteBack Empty = false
-isWriteBack (Register r) = false
-isWriteBack (Shifted r k n) = false
-isWriteBack (ShiftBy k r) = false
-isWriteBack (SaturateShift k n) = false
-isWriteBack (Rotate n) = false
-isWriteBack (Count z) = false
-isWriteBack (Number n) = false
-isWriteBack (StatusMask n) = false
-isWriteBack (StatusSource s) = false
-isWriteBack (WriteBack r) = true
-isWriteBack (Operand·List n) = false
-isWriteBack (Address n) = false
-isWriteBack (Memory m) = false
+isWriteBack o = eqb (operandNumber o) 10
 
 abbrev pub isAddress : Operand → Bool
-isAddress Empty = false
-isAddress (Register r) = false
-isAddress (Shifted r k n) = false
-isAddress (ShiftBy k r) = false
-isAddress (SaturateShift k n) = false
-isAddress (Rotate n) = false
-isAddress (Count z) = false
-isAddress (Number n) = false
-isAddress (StatusMask n) = false
-isAddress (StatusSource s) = false
-isAddress (WriteBack r) = false
-isAddress (Operand·List n) = false
-isAddress (Address n) = true
-isAddress (Memory m) = false
+isAddress o = eqb (operandNumber o) 12
 
 -- the memory form of an operand, or one of zeros
 abbrev pub noMemory : Mem

@@ -1,9 +1,8 @@
 -- The word of a load or a store, from its answer.
-use mathlib.Core.Bool.{Bool}
 use mathlib.Core.List.{List, [], _∷_}
-use Prim.Native.Nat.{ℕ, suc}
+use Prim.Native.Nat.{ℕ}
 use lib.Dec.{eqb}
-use lib.IntN.{ℤ, pos, negsuc}
+use lib.IntN.{natAbs}
 use Rattle.word.specs.Choice.{pick}
 use Rattle.word.specs.Layout.{join}
 use Rattle.insn.specs.Name.{LDR, LDRB, STRB, LDRT, LDRBT, STRT, STRBT}
@@ -14,16 +13,7 @@ use Rattle.insn.specs.declared.Index.the-variants.{Absent, Left}
 use Rattle.insn.specs.declared.Insn.{Insn}
 use Rattle.insn.specs.declared.Mem.{Mem}
 use Rattle.home.specs.Parts.{place, register, memory}
-
--- a displacement without its sign
-unfoldable pub magnitude : ℤ → ℕ
-magnitude (pos n) = n
-magnitude (negsuc n) = suc n
-
--- U, by the sign or the mark
-unfoldable pub upBit : ℤ → Bool → ℕ
-upBit (pos n) minus-zero = pick minus-zero 0 1
-upBit (negsuc n) minus-zero = 0
+use Rattle.home.specs.WordExtra.{bitP, bitU}
 
 -- L, B and whether the name is one of the `t` names
 unfoldable pub loadBit : ℕ → ℕ
@@ -35,12 +25,7 @@ byteBit name = pick (eqb name LDRB) 1 (pick (eqb name STRB) 1 (pick (eqb name LD
 unfoldable pub userBit : ℕ → ℕ
 userBit name = pick (eqb name LDRT) 1 (pick (eqb name LDRBT) 1 (pick (eqb name STRT) 1 (pick (eqb name STRBT) 1 0)))
 
--- P, and W by the mode or the name
-unfoldable pub beforeBit : AddrMode → ℕ
-beforeBit Offset = 1
-beforeBit PreIndex = 1
-beforeBit PostIndex = 0
-
+-- W by the mode or the name
 unfoldable pub writeBit : AddrMode → ℕ → ℕ
 writeBit Offset name = 0
 writeBit PreIndex name = 1
@@ -56,9 +41,9 @@ indexLayout = 4 ∷ 1 ∷ 2 ∷ 5 ∷ 4 ∷ 4 ∷ 1 ∷ 1 ∷ 1 ∷ 1 ∷ 1 ∷ 
 
 abbrev pub byIndex : Index → Insn → Mem → ℕ
 byIndex Absent i m =
-    join immediateLayout (magnitude (m .disp) ∷ register (place i 0) ∷ m .base .0 ∷ loadBit (i .name) ∷ writeBit (m .mode) (i .name) ∷ byteBit (i .name) ∷ upBit (m .disp) (m .«minus_zero») ∷ beforeBit (m .mode) ∷ 0 ∷ 1 ∷ i .cond .0 ∷ [])
+    join immediateLayout (natAbs (m .disp) ∷ register (place i 0) ∷ m .base .0 ∷ loadBit (i .name) ∷ writeBit (m .mode) (i .name) ∷ byteBit (i .name) ∷ bitU (m .disp) (m .«minus_zero») ∷ bitP (m .mode) ∷ 0 ∷ 1 ∷ i .cond .0 ∷ [])
 byIndex (Left r n) i m =
-    join indexLayout (r .0 ∷ 0 ∷ 0 ∷ n ∷ register (place i 0) ∷ m .base .0 ∷ loadBit (i .name) ∷ writeBit (m .mode) (i .name) ∷ byteBit (i .name) ∷ 1 ∷ beforeBit (m .mode) ∷ 1 ∷ 1 ∷ i .cond .0 ∷ [])
+    join indexLayout (r .0 ∷ 0 ∷ 0 ∷ n ∷ register (place i 0) ∷ m .base .0 ∷ loadBit (i .name) ∷ writeBit (m .mode) (i .name) ∷ byteBit (i .name) ∷ 1 ∷ bitP (m .mode) ∷ 1 ∷ 1 ∷ i .cond .0 ∷ [])
 
 abbrev pub ldstWord : Insn → ℕ
 ldstWord i = byIndex (memory (place i 1) .index) i (memory (place i 1))

@@ -7,6 +7,7 @@ use Rattle.insn.proofs.Shift.number.Reads as shift-number
 use Rattle.insn.proofs.Status.number.Reads as status-number
 use Rattle.insn.proofs.AddrMode.number.Reads as addrmode-number
 use Rattle.insn.proofs.Mem.base_disp.Reads as base-disp
+use Rattle.insn.proofs.Operand.number.Reads as operand-number
 use Rattle.insn.proofs.Flow.number.Reads as flow-number
 use Rattle.insn.proofs.Flow.target.Reads as target
 use Rattle.insn.proofs.Insn.new.Reads as insn-new
@@ -31,6 +32,9 @@ addrmode-number-only κs a r r′ s s′ p q = p ∙ sym q
 
 pub base-disp-only : (κs : _) (a : _) (r r′ : _) (s s′ : _) → base-disp.Post κs a r s → base-disp.Post κs a r′ s′ → r ≡ r′
 base-disp-only κs a r r′ s s′ p q = p ∙ sym q
+
+pub operand-number-only : (κs : _) (a : _) (r r′ : _) (s s′ : _) → operand-number.Post κs a r s → operand-number.Post κs a r′ s′ → r ≡ r′
+operand-number-only κs a r r′ s s′ p q = p ∙ sym q
 
 pub flow-number-only : (κs : _) (a : _) (r r′ : _) (s s′ : _) → flow-number.Post κs a r s → flow-number.Post κs a r′ s′ → r ≡ r′
 flow-number-only κs a r r′ s s′ p q = p ∙ sym q

@@ -6,6 +6,8 @@ use Rattle.insn.specs.declared.Status.{Status}
 use Rattle.insn.specs.declared.Status.the-variants.{Apsr, Spsr}
 use Rattle.insn.specs.declared.AddrMode.{AddrMode}
 use Rattle.insn.specs.declared.AddrMode.the-variants.{Offset, PreIndex, PostIndex}
+use Rattle.insn.specs.declared.Operand.{Operand}
+use Rattle.insn.specs.declared.Operand.the-variants.{Empty, Register, Shifted, ShiftBy, SaturateShift, Rotate, Count, Number, StatusMask, StatusSource, WriteBack, List, Address, Memory}
 use Rattle.insn.specs.declared.Flow.{Flow}
 use Rattle.insn.specs.declared.Flow.the-variants.{Next, Branch, CondBranch, IndirectBranch, Call, IndirectCall, Return, Trap}
 
@@ -26,6 +28,24 @@ abbrev pub modeNumber : AddrMode → ℕ
 modeNumber Offset = 0
 modeNumber PreIndex = 1
 modeNumber PostIndex = 2
+
+-- "a register, shifted register, shift by register, saturate shift, rotate, signed count, unsigned number, status mask,
+-- status source, write-back register, register list, address, or memory form", from 1 on
+abbrev pub operandNumber : Operand → ℕ
+operandNumber Empty = 0
+operandNumber (Register r) = 1
+operandNumber (Shifted r k n) = 2
+operandNumber (ShiftBy k r) = 3
+operandNumber (SaturateShift k n) = 4
+operandNumber (Rotate n) = 5
+operandNumber (Count z) = 6
+operandNumber (Number n) = 7
+operandNumber (StatusMask n) = 8
+operandNumber (StatusSource s) = 9
+operandNumber (WriteBack r) = 10
+operandNumber (List n) = 11
+operandNumber (Address n) = 12
+operandNumber (Memory m) = 13
 
 -- "flow (next jump jump? ijump call icall ret trap)"
 abbrev pub flowNumber : Flow → ℕ

@@ -3,7 +3,7 @@ ghost use mathlib.Core.Path.{_≡_};
 ghost use Prim.Native.Nat.{_<_};
 ghost use Rattle.insn.specs.Answer.{empty, filled, accepted, refused};
 ghost use Rattle.insn.specs.Memory.{baseDisp};
-ghost use Rattle.insn.specs.Numbers.{shiftNumber, statusNumber, modeNumber, flowNumber, flowTarget};
+ghost use Rattle.insn.specs.Numbers.{shiftNumber, statusNumber, modeNumber, operandNumber, flowNumber, flowTarget};
 
 pub mod name;
 
@@ -165,6 +165,29 @@ pub enum Operand {
     Address(u32),
     /// A memory reference.
     Memory(Mem),
+}
+
+impl Operand {
+    pub fn number(self) -> u8
+        ensures { λ r. ⌜ r ≡ operandNumber self ⌝ }
+    {
+        match self {
+            Operand::Empty => 0,
+            Operand::Register(_) => 1,
+            Operand::Shifted(_, _, _) => 2,
+            Operand::ShiftBy(_, _) => 3,
+            Operand::SaturateShift(_, _) => 4,
+            Operand::Rotate(_) => 5,
+            Operand::Count(_) => 6,
+            Operand::Number(_) => 7,
+            Operand::StatusMask(_) => 8,
+            Operand::StatusSource(_) => 9,
+            Operand::WriteBack(_) => 10,
+            Operand::List(_) => 11,
+            Operand::Address(_) => 12,
+            Operand::Memory(_) => 13,
+        }
+    }
 }
 
 /// One of an instruction's operand places.

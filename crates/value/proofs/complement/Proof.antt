@@ -1,0 +1,24 @@
+-- `value::complement` meets its contract: the complement of a number's bits is minus that number, less one. Assumes nothing.
+use mathlib.Core.Path.{_≡_, ap, _∙_}
+use borrow.Author.Needs.{needs}
+use Prim.Native.Nat.{ℕ, suc, _-_, _<_, _^_}
+use native.Mathlib.Omega.{arith}
+use lib.IntN.{negsuc}
+use mir.Syntax.{w64}
+use mir.Val.{toZ, ofZ}
+use mir.ValLaws.{toZ-ofZ}
+use Rattle.value.proofs.complement.Statement.{statement}
+use Rattle.value.proofs.complement.Tie as tie
+
+read : (n : ℕ) → n < 2 ^ 63 → toZ w64 (2 ^ 64 - 1 - n) ≡ negsuc n
+read n h =
+    ap (toZ w64) {x = 2 ^ 64 - 1 - n} {y = ofZ w64 (negsuc n)} (omega arith) ∙ toZ-ofZ w64 (negsuc n) (record { sfits = h })
+
+cast-result : tie.Need-cast-result
+cast-result c = search needs
+
+returns : tie.Need-returns
+returns c = read (c .args .n) (c .pre)
+
+pub complement-spec : {M : Type 1} → statement M
+complement-spec = tie.close (tie.spec cast-result returns)

@@ -1,0 +1,13 @@
+-- `words::parts::is_kind` meets its contract. Assumes nothing.
+use borrow.Author.Needs.{needs}
+use Rattle.words.proofs.parts.is_kind.Statement.{statement}
+use Rattle.words.proofs.parts.is_kind.Tie as tie
+
+number-requires : tie.Need-number-requires
+number-requires c κs = search needs
+
+returns : tie.Need-returns
+returns c = simp (c .number .ensures)
+
+pub is-kind-spec : {M : Type 1} → statement M
+is-kind-spec = tie.close (tie.spec number-requires returns)

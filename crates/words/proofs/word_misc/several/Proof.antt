@@ -1,0 +1,87 @@
+-- `words::word_misc::several` meets its contract. Assumes nothing.
+use borrow.Author.Needs.{needs}
+use Rattle.words.proofs.Joins.{fits}
+use Rattle.words.proofs.word_misc.several.Statement.{statement}
+use Rattle.words.proofs.word_misc.several.Tie as tie
+
+new-requires : tie.Need-new-requires
+new-requires c κs = search needs
+
+field-requires : tie.Need-field-requires
+field-requires c κs = search needs
+
+field-requires-2 : tie.Need-field-requires-2
+field-requires-2 c κs = search needs
+
+field-requires-3 : tie.Need-field-requires-3
+field-requires-3 c κs = search needs
+
+field-requires-4 : tie.Need-field-requires-4
+field-requires-4 c κs = search needs
+
+field-requires-5 : tie.Need-field-requires-5
+field-requires-5 c κs = search needs
+
+register-at-requires : tie.Need-register-at-requires
+register-at-requires c κs = search needs
+
+field-requires-6 : tie.Need-field-requires-6
+field-requires-6 c κs = search needs
+
+field-requires-7 : tie.Need-field-requires-7
+field-requires-7 c κs = search needs
+
+field-requires-8 : tie.Need-field-requires-8
+field-requires-8 c κs = search needs
+
+field-requires-9 : tie.Need-field-requires-9
+field-requires-9 c κs = search needs
+
+register-at-requires-2 : tie.Need-register-at-requires-2
+register-at-requires-2 c κs = search needs
+
+field-requires-10 : tie.Need-field-requires-10
+field-requires-10 c κs = search needs
+
+word-requires : tie.Need-word-requires
+word-requires c κs = search needs
+
+returns : tie.Need-returns
+returns c =
+    simp (
+      c .word .ensures,
+      c .before .field10 .ensures,
+      c .before .before .register-at2 .ensures,
+      c .before .before .before .field9 .ensures,
+      c .before .before .before .before .field8 .ensures,
+      c .before .before .before .before .before .field7 .ensures,
+      c .before .before .before .before .before .before .field6 .ensures,
+      c .before .before .before .before .before .before .before .register-at .ensures,
+      c .before .before .before .before .before .before .before .before .field5 .ensures,
+      c .before .before .before .before .before .before .before .before .before .field4 .ensures,
+      c .before .before .before .before .before .before .before .before .before .before .field3 .ensures,
+      c .before .before .before .before .before .before .before .before .before .before .before .field2 .ensures,
+      c .before .before .before .before .before .before .before .before .before .before .before .before .field .ensures,
+      c .before .before .before .before .before .before .before .before .before .before .before .before .before .new .ensures,
+      fits,
+    )
+
+pub several-spec : {M : Type 1} → statement M
+several-spec =
+    tie.close
+    (tie.spec
+    new-requires
+    field-requires
+    field-requires-2
+    field-requires-3
+    field-requires-4
+    field-requires-5
+    register-at-requires
+    field-requires-6
+    field-requires-7
+    field-requires-8
+    field-requires-9
+    register-at-requires-2
+    field-requires-10
+    word-requires
+    returns)

@@ -1,0 +1,95 @@
+//! The word that an instruction value leads to, put together from its name and operands, group by group.
+use crate::parts::ADDRESS;
+use crate::parts::COUNT;
+use crate::parts::is_at;
+use crate::word_dp::dp_word;
+use crate::word_dp::msr_immediate_word;
+use crate::word_dp::wide_word;
+use crate::word_extra::extra_word;
+use crate::word_ldst::ldst_word;
+use crate::word_media::media_word;
+use crate::word_misc::misc_word;
+use crate::word_transfer::block_word;
+use crate::word_transfer::blx_word;
+use crate::word_transfer::branch_word;
+use crate::word_transfer::preload_word;
+use insn::Insn;
+use insn::name;
+ghost use mathlib.Core.Path.{_≡_};
+ghost use Prim.Native.Nat.{_%_, _^_};
+ghost use lib.Dec.{eqb};
+ghost use Rattle.word.specs.Choice.{pick};
+ghost use Rattle.insn.specs.Name.{BLX};
+ghost use Rattle.home.specs.Word as W;
+ghost use Rattle.home.specs.WordTransfer.{blxWord, branchWord};
+ghost use Rattle.words.specs.Candidate.{candidate};
+
+pub mod form;
+pub mod join;
+pub mod parts;
+pub mod word_dp;
+pub mod word_extra;
+pub mod word_ldst;
+pub mod word_media;
+pub mod word_misc;
+pub mod word_multiply;
+pub mod word_transfer;
+
+/// Msr has one form in two groups.
+fn status_word(i: Insn) -> u32
+    ensures { λ r. ⌜ r ≡ W.statusWord i % 2 ^ 32 ⌝ }
+{
+    let n = i.name;
+    if n == name::MSR {
+        if is_at(i, 1, COUNT) {
+            msr_immediate_word(i)
+        } else {
+            misc_word(i)
+        }
+    } else {
+        misc_word(i)
+    }
+}
+
+fn address_word(i: Insn) -> u32
+    ensures { λ r. ⌜ r ≡ pick (eqb (i .name) BLX) (blxWord i) (branchWord i) % 2 ^ 32 ⌝ }
+{
+    let n = i.name;
+    if n == name::BLX {
+        blx_word(i)
+    } else {
+        branch_word(i)
+    }
+}
+
+/// By the last name of each group, in the order of the numbers.
+pub fn word_of(i: Insn) -> u32
+    ensures { λ r. ⌜ r ≡ candidate i ⌝ }
+{
+    let n = i.name;
+    if is_at(i, 0, ADDRESS) {
+        return address_word(i);
+    }
+    if n <= name::RRX {
+        return dp_word(i);
+    }
+    if n <= name::BKPT {
+        return status_word(i);
+    }
+    if n <= name::LDRSH {
+        return extra_word(i);
+    }
+    if n <= name::SEV {
+        return wide_word(i);
+    }
+    if n <= name::STRBT {
+        return ldst_word(i);
+    }
+    if n <= name::UXTAH {
+        return media_word(i);
+    }
+    if n <= name::PUSH {
+        return block_word(i);
+    }
+    preload_word(i)
+}

@@ -1,0 +1,261 @@
+//! The home word of an accepted word, as document 01 has it in "Home words".
+
+/// The words under a condition below 15, or those under condition 15.
+pub struct Space {
+    /// The first row that has a word counts. A word that is in none ignores nothing.
+    pub rows: &'static [Row],
+    /// The words in which bit 23 is set, in addition.
+    upward: Pattern,
+}
+
+/// The words of a row, and the bits that are cleared in them.
+#[derive(Clone, Copy)]
+pub struct Row {
+    pub words: Pattern,
+    cleared: u32,
+}
+
+/// The bits that a word has to have.
+#[derive(Clone, Copy)]
+pub struct Pattern {
+    fixed: u32,
+    value: u32,
+}
+
+/// Register data processing is drawn twice: shifted by a number, with bit 4 clear, and by a
+/// register, with bit 4 set and 7 clear.
+pub static CONDITIONAL: Space = Space {
+    rows: &[
+        // mov, mvn and shift names
+        row("0001 1.1. .... .... .... ...0 ....", &[(19, 16)]),
+        row("0001 1.1. .... .... .... 0..1 ....", &[(19, 16)]),
+        row("0011 1.1. .... .... .... .... ....", &[(19, 16)]),
+        // immediate compares
+        row("0011 0..1 .... .... .... .... ....", &[(15, 12)]),
+        // register compares, unless 15:12 is 15
+        row("0001 0..1 .... 1111 .... ...0 ....", &[]),
+        row("0001 0..1 .... 1111 .... 0..1 ....", &[]),
+        row("0001 0..1 .... .... .... ...0 ....", &[(15, 12)]),
+        row("0001 0..1 .... .... .... 0..1 ....", &[(15, 12)]),
+        // mrs
+        row(
+            "0001 0.00 .... .... ..0. 0000 ....",
+            &[(19, 16), (11, 10), (8, 8), (3, 0)],
+        ),
+        // msr register
+        row(
+            "0001 0.10 .... .... ..0. 0000 ....",
+            &[(15, 12), (11, 10), (8, 8)],
+        ),
+        // hints, before msr immediate: they are drawn among its words
+        row("0011 0010 0000 1111 .... .... ....", &[(11, 8)]),
+        // msr immediate
+        row("0011 0.10 .... .... .... .... ....", &[(15, 12)]),
+        // bx, bxj, blx register
+        row("0001 0010 .... .... .... 0001 ....", &[(19, 8)]),
+        row("0001 0010 .... .... .... 0010 ....", &[(19, 8)]),
+        row("0001 0010 .... .... .... 0011 ....", &[(19, 8)]),
+        // clz
+        row("0001 0110 .... .... .... 0001 ....", &[(19, 16), (11, 8)]),
+        // saturating adds
+        row("0001 0..0 .... .... .... 0101 ....", &[(11, 8)]),
+        // exclusives: stores, then loads
+        row("0001 1..0 .... .... .... 1001 ....", &[(11, 8)]),
+        row("0001 1..1 .... .... .... 1001 ....", &[(11, 8), (3, 0)]),
+        // extra index form: 6:5 = 01, then 1x
+        row("000. .0.. .... .... .... 1011 ....", &[(11, 8)]),
+        row("000. .0.. .... .... .... 11.1 ....", &[(11, 8)]),
+        // mul
+        row("0000 000. .... .... .... 1001 ....", &[(15, 12)]),
+        // sdiv, udiv
+        row("0111 0001 .... .... .... 0001 ....", &[(15, 12)]),
+        row("0111 0011 .... .... .... 0001 ....", &[(15, 12)]),
+        // ssat, usat
+        row("0110 101. .... .... .... ..01 ....", &[(20, 20)]),
+        row("0110 111. .... .... .... ..01 ....", &[(20, 20)]),
+    ],
+    // load/store (not extra) immediate offset mode, when 11:0 is 0
+    upward: pattern("0101 ..0. .... .... 0000 0000 0000"),
+};
+
+pub static CONDITION_15: Space = Space {
+    // preloads
+    rows: &[row("0101 .... .... 1111 .... ...0 ....", &[(21, 20)])],
+    // preloads, when 11:0 is 0
+    upward: pattern("0101 .... .... 1111 0000 0000 0000"),
+};
+
+/// The home word of an accepted word; a refused one has none.
+pub fn home(word: u32) -> u32 {
+    let space = if word >> 28 < 15 {
+        &CONDITIONAL
+    } else {
+        &CONDITION_15
+    };
+    let row = space.rows.iter().find(|row| row.words.has(word));
+    let cleared = row.map_or(0, |row| row.cleared);
+    let set = if space.upward.has(word) { 1 << 23 } else { 0 };
+    word & !cleared | set
+}
+
+/// A row: bits 27:0 of its words as they are drawn, and the fields that are cleared in them, each
+/// from its highest bit to its lowest.
+const fn row(drawn: &str, fields: &[(u32, u32)]) -> Row {
+    let mut cleared = 0;
+    let mut place = 0;
+    while place < fields.len() {
+        let (high, low) = fields[place];
+        cleared |= (2 << high) - (1 << low);
+        place += 1;
+    }
+    Row {
+        words: pattern(drawn),
+        cleared,
+    }
+}
+
+/// Bits 27:0, the highest first: 0, 1, or a dot for either.
+pub const fn pattern(drawn: &str) -> Pattern {
+    let drawn = drawn.as_bytes();
+    let mut pattern = Pattern { fixed: 0, value: 0 };
+    let mut bits = 0;
+    let mut place = 0;
+    while place < drawn.len() {
+        let bit = match drawn[place] {
+            b'0' => Some((1, 0)),
+            b'1' => Some((1, 1)),
+            b'.' => Some((0, 0)),
+            b' ' => None,
+            _ => panic!("a bit is drawn as 0, 1 or a dot"),
+        };
+        if let Some((fixed, value)) = bit {
+            pattern.fixed = pattern.fixed << 1 | fixed;
+            pattern.value = pattern.value << 1 | value;
+            bits += 1;
+        }
+        place += 1;
+    }
+    assert!(bits == 28, "bits 27:0 are drawn");
+    pattern
+}
+
+impl Pattern {
+    fn has(self, word: u32) -> bool {
+        word & self.fixed == self.value
+    }
+
+    /// The word, made to have these bits.
+    pub fn put_into(self, word: u32) -> u32 {
+        word & !self.fixed | self.value
+    }
+}
+
+#[cfg(test)]
+mod tests {
+    use super::home;
+
+    fn check(cases: &[(u32, u32)]) {
+        for &(word, expected) in cases {
+            let found = home(word);
+            assert!(
+                found == expected,
+                "{word:08x}: {found:08x}, not {expected:08x}"
+            );
+            assert!(home(found) == found, "{found:08x} is not its own home");
+        }
+    }
+
+    /// 01, "Proved cases", 13.
+    #[test]
+    fn case_13() {
+        check(&[(0xe511_0000, 0xe591_0000), (0xe411_0000, 0xe411_0000)]);
+    }
+
+    #[test]
+    fn moves_ignore_rn() {
+        check(&[
+            (0xe1af_0001, 0xe1a0_0001), // mov
+            (0xe1bf_0061, 0xe1b0_0061), // rrxs
+            (0xe1af_0211, 0xe1a0_0211), // lsl by a register
+            (0xe1ef_0001, 0xe1e0_0001), // mvn
+            (0xe3af_0001, 0xe3a0_0001), // mov of a count
+            (0xe1cf_0001, 0xe1cf_0001), // bic, which has an Rn
+            (0xe34f_0001, 0xe34f_0001), // movt, where 19:16 is part of the number
+            (0xe1cf_00b1, 0xe1cf_00b1), // strh, which is no register data processing
+        ]);
+    }
+
+    /// 01, "Easy errors": Rd 15 in a register compare is not cleared.
+    #[test]
+    fn compares_ignore_rd() {
+        check(&[
+            (0xe150_e001, 0xe150_0001),
+            (0xe150_f001, 0xe150_f001),
+            (0xe150_e211, 0xe150_0211), // shifted by a register
+            (0xe150_f211, 0xe150_f211),
+            (0xe350_e001, 0xe350_0001),
+            (0xe350_f001, 0xe350_0001),
+        ]);
+    }
+
+    #[test]
+    fn status_registers() {
+        check(&[
+            (0xe14f_1d0f, 0xe140_1000), // mrs
+            (0xe16f_fd0f, 0xe16f_000f), // msr register
+            (0xe32f_f0ff, 0xe32f_00ff), // msr immediate
+            (0xe360_f000, 0xe360_0000), // msr immediate, of the other register
+            (0xe320_ff01, 0xe320_f001), // a hint
+        ]);
+    }
+
+    #[test]
+    fn other_control_rows() {
+        check(&[
+            (0xe12f_ff1e, 0xe120_001e), // bx
+            (0xe12f_ff2e, 0xe120_002e), // bxj
+            (0xe12f_ff3e, 0xe120_003e), // blx
+            (0xe16f_1f1e, 0xe160_101e), // clz
+            (0xe14f_1f5e, 0xe14f_105e), // qdadd
+            (0xe12f_ff7e, 0xe12f_ff7e), // bkpt
+        ]);
+    }
+
+    #[test]
+    fn multiplies_and_exclusives() {
+        check(&[
+            (0xe001_f293, 0xe001_0293), // mul
+            (0xe011_f293, 0xe011_0293), // muls
+            (0xe021_f293, 0xe021_f293), // mla
+            (0xe181_2f93, 0xe181_2093), // strex
+            (0xe191_2f9f, 0xe191_2090), // ldrex
+            (0xe711_f213, 0xe711_0213), // sdiv
+            (0xe731_f213, 0xe731_0213), // udiv
+        ]);
+    }
+
+    #[test]
+    fn loads_and_stores() {
+        check(&[
+            (0xe181_2fb3, 0xe181_20b3), // strh, index form
+            (0xe181_2fd4, 0xe181_20d4), // ldrd, index form
+            (0xe1c1_2fb3, 0xe1c1_2fb3), // strh, immediate form
+            (0xe151_20b0, 0xe151_20b0), // ldrh, minus zero
+            (0xe541_2000, 0xe5c1_2000), // strb, offset mode, minus zero
+            (0xe511_0001, 0xe511_0001), // ldr, offset mode, minus 1
+            (0xe531_0000, 0xe531_0000), // ldr, pre, minus zero
+        ]);
+    }
+
+    #[test]
+    fn saturates_and_preloads() {
+        check(&[
+            (0xe6bf_1fdf, 0xe6af_1fdf), // ssat
+            (0xe6ff_1fdf, 0xe6ef_1fdf), // usat
+            (0xe6bf_1f31, 0xe6bf_1f31), // rev, beside them
+            (0xf57f_f04f, 0xf54f_f04f), // pldw
+            (0xf53f_f000, 0xf58f_f000), // pld, minus zero
+            (0xfa00_0000, 0xfa00_0000), // blx
+        ]);
+    }
+}

@@ -1,0 +1,132 @@
+//! An instruction value as the row of numbers that `encode_row` takes. What each place of the row
+//! means is in crates/value/specs/Value.antt.
+
+use crate::answer::{Index, Instruction, Memory, Operand, PLACES};
+
+/// Address, name, condition, flow and its target stand before the operands.
+const HEAD: usize = 5;
+const OPERAND: usize = 11;
+
+pub type Row = [u64; HEAD + PLACES * OPERAND];
+
+/// The row of a value.
+pub fn row(value: &Instruction) -> Row {
+    let mut row = [0; HEAD + PLACES * OPERAND];
+    let (head, operands) = row.split_at_mut(HEAD);
+    let [flow, target] = value.flow.numbers();
+    head.copy_from_slice(&[
+        value.address,
+        value.name.into(),
+        value.condition.into(),
+        flow,
+        target,
+    ]);
+    for (numbers, &operand) in operands.chunks_exact_mut(OPERAND).zip(&value.operands) {
+        numbers.copy_from_slice(&operand_row(operand));
+    }
+    row
+}
+
+/// An operand's numbers. Those that its kind has no use for are 0.
+fn operand_row(operand: Operand) -> [u64; OPERAND] {
+    // kind; register; shift's kind or status source; amount or mask; sign; value
+    let [kind, register, choice, amount, sign, value] = match operand {
+        Operand::Empty => [0; 6],
+        Operand::Register(register) => [1, register.into(), 0, 0, 0, 0],
+        Operand::Shifted {
+            register,
+            kind,
+            amount,
+        } => [2, register.into(), kind.into(), amount.into(), 0, 0],
+        Operand::ShiftByRegister { kind, register } => [3, register.into(), kind.into(), 0, 0, 0],
+        Operand::SaturateShift { kind, amount } => [4, 0, kind.into(), amount.into(), 0, 0],
+        Operand::Rotate(amount) => [5, 0, 0, amount.into(), 0, 0],
+        Operand::Count(count) => {
+            let [sign, value] = signed(count);
+            [6, 0, 0, 0, sign, value]
+        }
+        Operand::Number(number) => [7, 0, 0, 0, 0, number.into()],
+        Operand::StatusMask(mask) => [8, 0, 0, mask.into(), 0, 0],
+        Operand::StatusSource(source) => [9, 0, source.into(), 0, 0, 0],
+        Operand::WriteBack(register) => [10, register.into(), 0, 0, 0, 0],
+        Operand::List(list) => [11, 0, 0, 0, 0, list.into()],
+        Operand::Address(address) => [12, 0, 0, 0, 0, address.into()],
+        Operand::Memory(memory) => return memory_row(memory),
+    };
+    [kind, register, choice, amount, sign, value, 0, 0, 0, 0, 0]
+}
+
+/// A memory form has a number for every place.
+fn memory_row(memory: Memory) -> [u64; OPERAND] {
+    let (indexed, index, shift) = match memory.index {
+        Some(Index { register, shift }) => (1, register, shift),
+        None => (0, 0, 0),
+    };
+    let [sign, displacement] = signed(memory.displacement);
+    [
+        13,
+        memory.base.into(),
+        indexed,
+        shift.into(),
+        sign,
+        displacement,
+        index.into(),
+        memory.mode.number(),
+        memory.size.into(),
+        memory.decimal.into(),
+        memory.minus_zero.into(),
+    ]
+}
+
+/// A sign, and what follows it: minus one is a sign and 0.
+fn signed(number: i64) -> [u64; 2] {
+    if number < 0 {
+        [1, !number as u64]
+    } else {
+        [0, number as u64]
+    }
+}
+
+#[cfg(test)]
+mod tests {
+    use super::row;
+    use crate::answer::{Flow, Index, Instruction, Memory, Mode, Operand};
+
+    #[test]
+    fn numbers_stand_in_their_places() {
+        let value = Instruction {
+            address: 1 << 40,
+            name: 300,
+            condition: 20,
+            flow: Flow::Call(9),
+            operands: [
+                Operand::Shifted {
+                    register: 14,
+                    kind: 3,
+                    amount: 31,
+                },
+                Operand::Count(-1),
+                Operand::Empty,
+                Operand::Memory(Memory {
+                    base: 13,
+                    index: Some(Index {
+                        register: 12,
+                        shift: 2,
+                    }),
+                    displacement: i64::MIN,
+                    mode: Mode::Post,
+                    size: 8,
+                    decimal: true,
+                    minus_zero: false,
+                }),
+            ],
+        };
+        let row = row(&value);
+        assert_eq!(row[..5], [1 << 40, 300, 20, 4, 9]);
+        assert_eq!(row[5..16], [2, 14, 3, 31, 0, 0, 0, 0, 0, 0, 0]);
+        assert_eq!(row[16..27], [6, 0, 0, 0, 1, 0, 0, 0, 0, 0, 0]);
+        assert_eq!(row[27..38], [0; 11]);
+        let most = (1 << 63) - 1;
+        assert_eq!(row[38..], [13, 13, 1, 2, 1, most, 12, 2, 8, 1, 0]);
+    }
+}
