@@ -101,24 +101,6 @@ impl Answer {
     }
 }
 
-impl Answer {
-    /// The numbers of its refusal, name, condition and flow, the last three 0 beside a refusal.
-    pub fn heads(&self) -> [u64; 4] {
-        match self {
-            Answer::Refused(refusal) => [u64::from(*refusal), 0, 0, 0],
-            Answer::Accepted(instruction) => {
-                let [flow, _] = instruction.flow.numbers();
-                [
-                    0,
-                    instruction.name.into(),
-                    instruction.condition.into(),
-                    flow,
-                ]
-            }
-        }
-    }
-}
-
 impl Instruction {
     #[inline(always)]
     fn numbers(&self, take: &mut impl FnMut(u64)) {

@@ -18,6 +18,7 @@ mod proved;
 mod random;
 mod reports;
 mod row;
+mod section;
 mod sweep;
 mod trip;
 mod values;
@@ -30,6 +31,7 @@ mod arm;
 mod insn;
 
 use std::env;
+use std::fs;
 use std::io::{self, BufWriter, Write};
 use std::process::ExitCode;
 
@@ -44,6 +46,7 @@ const USAGE: &str = "\
 modes of the oracle (numbers are hexadecimal, but those of values; no SET is every word):
   lines                reads lines of address, tab, word; adds the line of the listing to each
   answers              reads the same; prints what the program `answers` prints of each
+  listings FILE ..     prints what the program `listings` prints of the sections in the files
   count [SET]          counts what the Rust accepts and refuses
   sweep ADDRESS [SET]  compares the Rust with the proved code, word by word
   trip ADDRESS [SET]   has the proved code decode and encode each word, which gives its home word
@@ -67,6 +70,7 @@ fn run(arguments: &[&str]) -> Result<ExitCode, String> {
     match arguments {
         ["lines"] => each_word(lines_line)?,
         ["answers"] => each_word(answers_line)?,
+        ["listings", files @ ..] => each_file(files)?,
         ["count", set @ ..] => println!("{}", sweep::count(&words::set(set)?)),
         ["sweep", address, set @ ..] => {
             let (tally, differences) = sweep::sweep(proved()?, hex(address)?, &words::set(set)?);
@@ -107,6 +111,16 @@ fn decimal(text: &str) -> Result<u64, String> {
         .map_err(|why| format!("'{text}' in base ten: {why}"))
 }
 
+/// Prints the listing of the section in each file, after the file's name.
+fn each_file(files: &[&str]) -> Result<(), String> {
+    let mut oracle = Oracle::new();
+    for file in files {
+        let input = fs::read(file).map_err(|why| format!("{file}: {why}"))?;
+        print!("{file}:\n{}", section::listing(&mut oracle, &input));
+    }
+    Ok(())
+}
+
 /// Prints what `spell` makes of each address and word on standard input, and of the answer to it.
 fn each_word(spell: fn(u64, u32, Answer) -> String) -> Result<(), String> {
     let mut oracle = Oracle::new();
@@ -131,8 +145,12 @@ fn lines_line(address: u64, word: u32, answer: Answer) -> String {
 
 fn answers_line(address: u64, word: u32, answer: Answer) -> String {
     let digest = digest::fold(digest::START, &answer);
-    let [refusal, name, condition, flow] = answer.heads();
-    format!("{address:016x} {word:08x} {refusal} {name} {condition} {flow} {digest}")
+    let line = Line {
+        address,
+        word,
+        answer,
+    };
+    format!("{address:016x} {digest} {line}")
 }
 
 fn address_and_word(line: &str) -> Result<(u64, u32), String> {

@@ -1,9 +1,9 @@
-//! Decodes records of an address and a word from standard input, low byte first, and prints a line for each: address,
-//! word, refusal, name number, condition, flow number, and a digest of the whole answer.
-use a32::decode;
+//! Reads records of an address and a word from standard input, low byte first, and prints of each the address, a digest of the
+//! whole answer, and the line of the listing.
 use digest::digest;
 use libc::STDIN_FILENO;
 use libc::STDOUT_FILENO;
+use line::line;
 use word::word_at;
 ghost use Prim.Native.Nat.{_+_, _≤_};
 ghost use lib.ListN.{length};
@@ -34,22 +34,12 @@ fn print_line(records: &[u8], at: usize)
 }
 
 fn print_answer(addr: u64, w: u32) {
-    let d = decode(w, addr);
-    let i = d.insn;
-    let cond = i.cond;
-    let flow = i.flow;
+    let mut text = [0u8; 96];
+    let written = line(addr, w, &mut text);
+    let len = written.len;
     io::print_hex(STDOUT_FILENO, addr, 16);
     io::write_all(STDOUT_FILENO, b" ");
-    io::print_hex(STDOUT_FILENO, w as u64, 8);
-    print_number(d.refusal as u64);
-    print_number(i.name as u64);
-    print_number(cond.0 as u64);
-    print_number(flow.number() as u64);
-    print_number(digest(1, w, 1, addr));
-    io::write_all(STDOUT_FILENO, b"\n");
-}
-
-fn print_number(n: u64) {
+    io::print_decimal(STDOUT_FILENO, digest(1, w, 1, addr));
     io::write_all(STDOUT_FILENO, b" ");
-    io::print_decimal(STDOUT_FILENO, n);
+    io::write_all(STDOUT_FILENO, &text[..len]);
 }

@@ -1,0 +1,84 @@
+-- `listed::put_closing` meets its contract. Assumes nothing.
+use native.Mathlib.Omega.{arith}
+use lib.ListN.{length-append}
+use Rattle.text.proofs.Writing.{_then_}
+use Rattle.listed.specs.Listing.{closingOf}
+use borrow.Author.Needs.{needs}
+use Rattle.listed.proofs.put_closing.Statement.{statement}
+use Rattle.listed.proofs.put_closing.Tie as tie
+
+put-decimal-requires : tie.Need-put-decimal-requires
+unfolding closingOf
+put-decimal-requires c κs = omega (arith, simp length-append at (c .before .before .pre .1))
+
+slice-aggregate-put : tie.Need-slice-aggregate-put
+slice-aggregate-put c = search needs
+
+put-requires : tie.Need-put-requires
+unfolding closingOf
+put-requires c κs = omega (arith, simp length-append at (c .before .before .before .before .before .before .before .pre .1))
+
+put-decimal-requires-2 : tie.Need-put-decimal-requires-2
+unfolding closingOf
+put-decimal-requires-2 c κs = omega (arith, simp length-append at (c .before .before .before .before .before .before .before .before .before .before .before .pre .1))
+
+slice-aggregate-put-2 : tie.Need-slice-aggregate-put-2
+slice-aggregate-put-2 c = search needs
+
+put-requires-2 : tie.Need-put-requires-2
+unfolding closingOf
+put-requires-2 c κs = omega (arith, simp length-append at (c .before .before .before .before .before .before .before .before .before .before .before .before .before .before .before .before .pre .1))
+
+sub-put-decimal : tie.Need-sub-put-decimal
+sub-put-decimal c = search needs
+
+cast-put-decimal : tie.Need-cast-put-decimal
+cast-put-decimal c = search needs
+
+put-decimal-requires-3 : tie.Need-put-decimal-requires-3
+unfolding closingOf
+put-decimal-requires-3 c κs = omega (arith, simp length-append at (c .before .before .before .before .before .before .before .before .before .before .before .before .before .before .before .before .before .before .before .before .pre .1))
+
+slice-aggregate-put-3 : tie.Need-slice-aggregate-put-3
+slice-aggregate-put-3 c = search needs
+
+put-requires-3 : tie.Need-put-requires-3
+unfolding closingOf
+put-requires-3 c κs = omega (arith, simp length-append at (c .before .before .before .before .before .before .before .before .before .before .before .before .before .before .before .before .before .before .before .before .before .before .before .before .before .pre .1))
+
+same-length : tie.Need-same-length
+same-length c = search needs
+
+returns : tie.Need-returns
+unfolding closingOf
+returns c =
+    let sixth = c .before .before in
+    let fifth = sixth .before .before .before .before .before in
+    let fourth = fifth .before .before .before .before in
+    let third = fourth .before .before .before .before .before in
+    let second = third .before .before .before .before in
+    let first = second .before .before .before .before .before in
+    first .put-decimal .ensures
+    then second .put .ensures
+    then third .put-decimal2 .ensures
+    then fourth .put2 .ensures
+    then fifth .put-decimal3 .ensures
+    then sixth .put3 .ensures
+
+pub put-closing-spec : {M : Type 1} → statement M
+put-closing-spec =
+    tie.close
+    (tie.spec
+    put-decimal-requires
+    slice-aggregate-put
+    put-requires
+    put-decimal-requires-2
+    slice-aggregate-put-2
+    put-requires-2
+    sub-put-decimal
+    cast-put-decimal
+    put-decimal-requires-3
+    slice-aggregate-put-3
+    put-requires-3
+    same-length
+    returns)

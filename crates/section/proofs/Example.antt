@@ -1,0 +1,49 @@
+-- The section of 01's listing, and sections that fail one check or several. Assumes nothing.
+use mathlib.Core.Path.{_≡_, refl}
+use mathlib.Core.List.{List, [], _∷_, map}
+use Prim.Native.Nat.{ℕ}
+use lib.ListN.{replicate}
+use Rattle.section.specs.Section.{refusalOf, checkedOf, stepOf}
+use Rattle.section.specs.declared.Step.the-variants.{Word, End}
+
+abbrev listed : List ℕ
+listed =
+    0x52 ∷ 0x53 ∷ 0x58 ∷ 0x01 ∷ 0x00 ∷ 0x00 ∷ 0x80 ∷ 0x00 ∷ 0x00 ∷ 0x10 ∷ 0x40 ∷ 0x2d ∷ 0xe9 ∷ 0x0e ∷ 0xf0 ∷ 0xa0 ∷ 0xe1
+    ∷ 0x4f ∷ 0xf0 ∷ 0x7f ∷ 0xf5 ∷ 0x5f ∷ 0xf0 ∷ 0x7f ∷ 0xf5 ∷ 0xfe ∷ 0xff ∷ 0xff ∷ 0x0a ∷ 0x00 ∷ 0x00 ∷ 0x00 ∷ 0xef ∷ []
+
+accepts : checkedOf listed ≡ record { refusal = 0; base = 0x8000; count = 6 }
+unfolding refusalOf
+accepts = refl
+
+finds :
+    map (stepOf listed) (0 ∷ 1 ∷ 2 ∷ 3 ∷ 4 ∷ 5 ∷ 6 ∷ [])
+    ≡ Word 0xe92d4010 0x8000
+    ∷ Word 0xe1a0f00e 0x8004
+    ∷ Word 0xf57ff04f 0x8008
+    ∷ Word 0xf57ff05f 0x800c
+    ∷ Word 0x0afffffe 0x8010
+    ∷ Word 0xef000000 0x8014
+    ∷ End
+    ∷ []
+unfolding refusalOf
+finds = refl
+
+-- a mark's last byte, a version, a base's lowest byte and its others, and so many bytes of words
+abbrev made : ℕ → ℕ → ℕ → ℕ → ℕ → List ℕ
+made mark version low high size = 0x52 ∷ 0x53 ∷ mark ∷ version ∷ 0x00 ∷ low ∷ high ∷ high ∷ high ∷ replicate size 0
+
+-- the first check that fails gives the number; a section may end at 2 ^ 32
+refuses :
+    map refusalOf
+    ((0x52 ∷ 0x53 ∷ 0x59 ∷ [])
+    ∷ made 0x59 2 1 0 1
+    ∷ made 0x58 2 1 0 1
+    ∷ made 0x58 1 1 0 16389
+    ∷ made 0x58 1 1 0 16388
+    ∷ made 0x58 1 1 0 4
+    ∷ made 0x58 1 0xfc 0xff 8
+    ∷ made 0x58 1 0xfc 0xff 4
+    ∷ [])
+    ≡ 7 ∷ 5 ∷ 6 ∷ 7 ∷ 8 ∷ 9 ∷ 9 ∷ 0 ∷ []
+unfolding refusalOf
+refuses = refl

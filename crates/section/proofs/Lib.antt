@@ -1,0 +1,6 @@
+-- Facts of the crate that belong to no one function.
+pub mod Accepted
+pub mod Example
+pub mod Reading
+pub mod Taken
+pub mod Unique

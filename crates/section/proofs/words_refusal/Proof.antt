@@ -1,0 +1,111 @@
+-- `section::words_refusal` meets its contract. Assumes nothing.
+use borrow.Author.Tests.{le-ltb, lt-ltb, eq-eqb, ne-eqb}
+use Rattle.section.specs.Section.{refusalOf}
+use borrow.Author.Needs.{needs}
+use Rattle.section.proofs.words_refusal.Statement.{statement}
+use Rattle.section.proofs.words_refusal.Tie as tie
+
+sub-if1 : tie.Need-sub-if1
+sub-if1 c = search needs
+
+returns : tie.Need-returns
+unfolding refusalOf
+returns c =
+    let pre = c .before .before .pre in
+    simp (
+      ne-eqb _ _ (c .if1 .taken),
+      eq-eqb _ _ (pre .2),
+      pre .1,
+      le-ltb _ _ (pre .0),
+    )
+
+count-requires : tie.Need-count-requires
+count-requires c κs = search needs
+
+returns-2 : tie.Need-returns-2
+unfolding refusalOf
+returns-2 c =
+    let pre = c .before .before .before .before .pre in
+    simp (
+      lt-ltb _ _ (c .if2 .taken),
+      ← (c .before .count .ensures),
+      eq-eqb _ _ (c .before .before .if1 .left),
+      eq-eqb _ _ (pre .2),
+      pre .1,
+      le-ltb _ _ (pre .0),
+    )
+
+base-requires : tie.Need-base-requires
+base-requires c κs = search needs
+
+returns-3 : tie.Need-returns-3
+unfolding refusalOf
+returns-3 c =
+    let pre = c .before .before .before .before .before .before .pre in
+    simp (
+      ne-eqb _ _ (c .if3 .taken),
+      ← (c .before .base .ensures),
+      le-ltb _ _ (c .before .before .if2 .left),
+      ← (c .before .before .before .count .ensures),
+      eq-eqb _ _ (c .before .before .before .before .if1 .left),
+      eq-eqb _ _ (pre .2),
+      pre .1,
+      le-ltb _ _ (pre .0),
+    )
+
+cast-if4 : tie.Need-cast-if4
+cast-if4 c = search needs
+
+mul-if4 : tie.Need-mul-if4
+mul-if4 c = search needs
+
+add-if4 : tie.Need-add-if4
+add-if4 c = search needs
+
+returns-4 : tie.Need-returns-4
+unfolding refusalOf
+returns-4 c =
+    let pre = c .before .before .before .before .before .before .before .pre in
+    simp (
+      lt-ltb _ _ (c .if4 .taken),
+      eq-eqb _ _ (c .before .if3 .left),
+      ← (c .before .before .base .ensures),
+      le-ltb _ _ (c .before .before .before .if2 .left),
+      ← (c .before .before .before .before .count .ensures),
+      eq-eqb _ _ (c .before .before .before .before .before .if1 .left),
+      eq-eqb _ _ (pre .2),
+      pre .1,
+      le-ltb _ _ (pre .0),
+    )
+
+returns-5 : tie.Need-returns-5
+unfolding refusalOf
+returns-5 c =
+    let pre = c .before .before .before .before .before .before .before .pre in
+    simp (
+      le-ltb _ _ (c .if4 .left),
+      eq-eqb _ _ (c .before .if3 .left),
+      ← (c .before .before .base .ensures),
+      le-ltb _ _ (c .before .before .before .if2 .left),
+      ← (c .before .before .before .before .count .ensures),
+      eq-eqb _ _ (c .before .before .before .before .before .if1 .left),
+      eq-eqb _ _ (pre .2),
+      pre .1,
+      le-ltb _ _ (pre .0),
+    )
+
+pub words-refusal-spec : {M : Type 1} → statement M
+words-refusal-spec =
+    tie.close
+    (tie.spec
+    sub-if1
+    returns
+    count-requires
+    returns-2
+    base-requires
+    returns-3
+    cast-if4
+    mul-if4
+    add-if4
+    returns-4
+    returns-5)

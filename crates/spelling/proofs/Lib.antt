@@ -1,0 +1,19 @@
+-- How answers read: lines fit (`Fits`), names differ (`Names`), and a text is read back to its answer (`Differ`).
+pub mod Formed
+pub mod FormedLdst
+pub mod FormedDp
+pub mod FormedMisc
+pub mod FormedMultiply
+pub mod FormedMedia
+pub mod FormedTransfer
+pub mod FormedAll
+pub mod Cut
+pub mod Tables
+pub mod Digits
+pub mod Names
+pub mod Spaced
+pub mod Fits
+pub mod Clean
+pub mod Read
+pub mod Back
+pub mod Differ

@@ -1,0 +1,88 @@
+-- `text::put_hex` meets its contract. The loop's invariant: the digits above the lowest `left` are written. Assumes nothing.
+use borrow.Author.Needs.{needs}
+use mathlib.Core.Path.{_≡_, refl, _∙_}
+use Prim.Native.Nat.{_-_, _*_, _/_, _^_, _≤_}
+use native.Mathlib.Nat.{sub-self, sub-zero, div-one}
+use native.Mathlib.Omega.{arith}
+use lib.ListN.{length}
+use Rattle.text.specs.Text.{hexOf}
+use Rattle.text.specs.Put.{Put}
+use Rattle.text.proofs.Writing.{none, _then_}
+use Rattle.text.proofs.Digits.{hex-size, hex-more}
+use Rattle.text.proofs.put_hex.Statement.{statement}
+use Rattle.text.proofs.put_hex.Tie as tie
+
+abbrev Inv-loop : tie.InvT-loop
+Inv-loop out₀ at n digits at₀ left₀ out at' left =
+    (left ≤ digits) × (length out ≡ length out₀) × Put out₀ at (hexOf (digits - left) (n / 2 ^ (4 * left))) at' out
+
+abbrev μ-loop : tie.MeasureT-loop
+μ-loop out₀ at n digits at₀ left₀ out at' left = left
+
+loop-holds : tie.Need-loop-holds Inv-loop μ-loop
+unfolding hexOf
+loop-holds c = (omega arith, refl, rw (sub-self (c .before .args .digits)) (none _ _))
+
+sub-left : tie.Need-sub-left Inv-loop μ-loop
+sub-left c = search needs
+
+cast-n : tie.Need-cast-n Inv-loop μ-loop
+cast-n c = search needs
+
+mul-n : tie.Need-mul-n Inv-loop μ-loop
+mul-n c = search needs
+
+shr-n : tie.Need-shr-n Inv-loop μ-loop
+shr-n c = search needs
+
+cast-hex-digit : tie.Need-cast-hex-digit Inv-loop μ-loop
+cast-hex-digit c = search needs
+
+hex-digit-requires : tie.Need-hex-digit-requires Inv-loop μ-loop
+hex-digit-requires c κs = search needs
+
+put-byte-requires : tie.Need-put-byte-requires Inv-loop μ-loop
+put-byte-requires c κs =
+    let now = c .before .before .before .loop in
+    let given = c .before .before .before .before .before .args in
+    omega (arith, hex-size (given .digits - now .left) (given .n / 2 ^ (4 * now .left)), hex-size (given .digits) (given .n))
+
+loop-less : tie.Need-loop-less Inv-loop μ-loop
+loop-less c = search needs
+
+loop-again : tie.Need-loop-again Inv-loop μ-loop
+loop-again c =
+    let now = c .before .before .before .before .before .before .loop in
+    let given = c .before .before .before .before .before .before .before .before .args in (
+      omega arith,
+      c .before .before .put-byte .kept .0 ∙ now .inv .1,
+      rw (hex-more (given .digits) (given .n) (now .left) (omega arith) (omega arith), ← (c .before .before .before .hex-digit .ensures))
+          (now .inv .2 then c .before .before .put-byte .ensures),
+    )
+
+same-length : tie.Need-same-length Inv-loop μ-loop
+same-length c = c .before .loop .inv .1
+
+returns : tie.Need-returns Inv-loop μ-loop
+returns c =
+    let none-left : c .before .loop .left ≡ 0 = omega arith in
+    simp (none-left, sub-zero, div-one) at (c .before .loop .inv .2)
+
+pub put-hex-spec : {M : Type 1} → statement M
+put-hex-spec =
+    tie.close
+    (tie.spec
+    Inv-loop
+    μ-loop
+    loop-holds
+    sub-left
+    cast-n
+    mul-n
+    shr-n
+    cast-hex-digit
+    hex-digit-requires
+    put-byte-requires
+    loop-less
+    loop-again
+    same-length
+    returns)

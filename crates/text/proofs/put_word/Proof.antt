@@ -1,0 +1,121 @@
+-- `text::put_word` meets its contract. The loop's invariant: the bytes passed are written, and the word is these and what is left of it.
+-- Assumes nothing.
+use borrow.Author.Needs.{needs}
+use borrow.Author.Tests.{eq-eqb, ne-eqb}
+use mathlib.Core.Path.{_≡_, refl, sym, ap, _∙_}
+use mathlib.Core.List.{List, _++_, append-nil}
+use Prim.Native.Nat.{ℕ, suc, _+_, _-_, _≤_, _<_}
+use native.Mathlib.Numerals.{add-one}
+use native.Mathlib.Omega.{arith}
+use lib.ListN.{length, getD, take, drop, length-append, length-set, drop-of-length-le}
+use lib.Seq.{take-suc, drop-cons, append-snoc, length-take-le}
+use Rattle.text.specs.Put.{Put}
+use Rattle.text.specs.Entry.{wordOf}
+use Rattle.text.proofs.Writing.{nothing, more}
+use Rattle.text.proofs.put_word.Statement.{statement}
+use Rattle.text.proofs.put_word.Tie as tie
+
+-- i bytes of the text's word have been passed
+abbrev Passed : List ℕ → ℕ → Type 0
+Passed text i = wordOf text ≡ take i text ++ wordOf (drop i text)
+
+module _ (text : List ℕ) (i : ℕ) (passed : Passed text i) where
+  -- they are within the word
+  within : i ≤ length text → i ≤ length (wordOf text)
+  within h = omega (arith, ap length passed, length-append (take i text) (wordOf (drop i text)), length-take-le i text h)
+
+  at-end : length text ≤ i → take i text ≡ wordOf text
+  at-end h = sym (passed ∙ rw (drop-of-length-le text h, append-nil))
+
+  at-space : i < length text → getD text i 0 ≡ 32 → take i text ≡ wordOf text
+  at-space h e = sym (passed ∙ rw (drop-cons text i 0 h) (simp (eq-eqb (getD text i 0) 32 e, append-nil)))
+
+  ahead : i < length text → (getD text i 0 ≡ 32 → ⊥) → Passed text (i + 1)
+  ahead h e =
+      passed
+      ∙ rw (add-one i, take-suc text i 0 h, drop-cons text i 0 h)
+      (simp (ne-eqb (getD text i 0) 32 e) (sym (append-snoc (take i text) (getD text i 0) (wordOf (drop (suc i) text)))))
+
+abbrev Inv-loop : tie.InvT-loop
+Inv-loop out₀ at text i₀ out i = (i ≤ length text) × (length out ≡ length out₀) × Passed text i × Put out₀ at (take i text) (at + i) out
+
+abbrev μ-loop : tie.MeasureT-loop
+μ-loop out₀ at text i₀ out i = length text - i
+
+loop-holds : tie.Need-loop-holds Inv-loop μ-loop
+loop-holds c = (omega arith, refl, refl, record { ends = refl; holds = nothing _ _ })
+
+shared-slice-read-b : tie.Need-shared-slice-read-b Inv-loop μ-loop
+shared-slice-read-b c = search needs
+
+add-result : tie.Need-add-result Inv-loop μ-loop
+add-result c =
+    let now = c .before .before .before .loop in
+    omega (arith, within _ (now .i) (now .inv .2) (now .inv .0))
+
+same-length : tie.Need-same-length Inv-loop μ-loop
+same-length c = c .before .before .before .loop .inv .1
+
+returns : tie.Need-returns Inv-loop μ-loop
+returns c =
+    let now = c .before .before .before .loop in
+    rw (at-space _ (now .i) (now .inv .2) (omega arith) (c .if1 .taken)) at (now .inv .3)
+
+add-out : tie.Need-add-out Inv-loop μ-loop
+add-out c =
+    let now = c .before .before .before .loop in
+    omega (arith, within _ (now .i) (now .inv .2) (now .inv .0))
+
+-- the place of the byte that a turn writes
+place : (c : tie.Else1 Inv-loop μ-loop) → c .before .before .before .before .args .at + c .before .before .before .loop .i < length (c .before .before .before .loop .out)
+place c =
+    let now = c .before .before .before .loop in
+    let next = ahead _ (now .i) (now .inv .2) (omega arith) (c .if1 .left) in
+    omega (arith, within _ (now .i + 1) next (omega arith))
+
+slice-write-out : tie.Need-slice-write-out Inv-loop μ-loop
+slice-write-out c = place c
+
+add-i : tie.Need-add-i Inv-loop μ-loop
+add-i c = search needs
+
+loop-less : tie.Need-loop-less Inv-loop μ-loop
+loop-less c = search needs
+
+loop-again : tie.Need-loop-again Inv-loop μ-loop
+loop-again c =
+    let now = c .before .before .before .loop in (
+      omega arith,
+      simp length-set (now .inv .1),
+      ahead _ (now .i) (now .inv .2) (omega arith) (c .if1 .left),
+      more _ (now .i) (now .inv .3) (omega arith) (place c),
+    )
+
+add-result-2 : tie.Need-add-result-2 Inv-loop μ-loop
+add-result-2 c = omega (arith, within _ (c .before .loop .i) (c .before .loop .inv .2) (c .before .loop .inv .0))
+
+same-length-2 : tie.Need-same-length-2 Inv-loop μ-loop
+same-length-2 c = c .before .loop .inv .1
+
+returns-2 : tie.Need-returns-2 Inv-loop μ-loop
+returns-2 c = rw (at-end _ (c .before .loop .i) (c .before .loop .inv .2) (omega arith)) at (c .before .loop .inv .3)
+
+pub put-word-spec : {M : Type 1} → statement M
+put-word-spec =
+    tie.close
+    (tie.spec
+    Inv-loop
+    μ-loop
+    loop-holds
+    shared-slice-read-b
+    add-result
+    same-length
+    returns
+    add-out
+    slice-write-out
+    add-i
+    loop-less
+    loop-again
+    add-result-2
+    same-length-2
+    returns-2)
