@@ -21,3 +21,4 @@ pub mod Same
 pub mod Laid
 pub mod Unique
 pub mod Address
+pub mod Conditions
