@@ -1,10 +1,8 @@
 -- `line::line` meets its contract: a line fits 96 bytes, so that only its length decides. Assumes nothing.
 use borrow.Author.Needs.{needs}
-use mathlib.Core.Path.{sym}
 use Prim.Native.Nat.{_≤_}
 use native.Mathlib.Omega.{arith}
-use lib.ListN.{length}
-use lib.Seq.{length-take-le}
+use lib.ListN.{length, length-take}
 use Rattle.text.proofs.Writing.{front}
 use Rattle.text.proofs.Settled.{fits, ends-within}
 use Rattle.spelling.proofs.Fits.{line-fits}
@@ -37,7 +35,7 @@ array-share-prefix-whole : tie.Need-array-share-prefix-whole
 array-share-prefix-whole c = omega (arith, inside (c .before .before))
 
 slice-aggregate-put-whole : tie.Need-slice-aggregate-put-whole
-slice-aggregate-put-whole c = sym (length-take-le _ _ (omega (arith, inside (c .before .before .before))))
+slice-aggregate-put-whole c = simp length-take (omega (arith, inside (c .before .before .before)))
 
 put-whole-requires : tie.Need-put-whole-requires
 put-whole-requires c κs = search needs
