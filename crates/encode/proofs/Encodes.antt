@@ -7,6 +7,7 @@ use native.Mathlib.Nat.{mod-eq-of-lt, mod-lt}
 use borrow.Author.Tests.{eqb-true}
 use lib.Dec.{eqb}
 use lib.Pow.{pow-pos}
+use Rattle.word.specs.Choice.{by-test}
 use Rattle.insn.specs.Answer.{accepted}
 use Rattle.insn.specs.declared.Decoded.{Decoded}
 use Rattle.insn.specs.declared.Insn.{Insn}
@@ -14,7 +15,7 @@ use Rattle.a32.specs.Decode.{decodeOf}
 use Rattle.home.specs.Home.{homeOf}
 use Rattle.home.specs.Word.{wordOf}
 use Rattle.home.proofs.Address.{keeps-address}
-use Rattle.home.proofs.Leads.{split, refusal}
+use Rattle.home.proofs.Leads.{refusal}
 use Rattle.home.proofs.Same.{home-decodes, home-small, leads-back}
 use Rattle.same.specs.Same.{sameOf}
 use Rattle.same.proofs.Exact.{same-is}
@@ -36,9 +37,9 @@ accepted-of d ok = ap (λ (n : ℕ). record { refusal = n; insn = d .insn }) ok
 -- a word that the encoder gives has the value for its answer
 pub gives : (i : Insn) → (encodeOf i) .refusal ≡ 0 → decodeOf ((encodeOf i) .word) (i .addr) ≡ accepted i
 gives i =
-    split (eqb ((decodeOf (candidate i) (i .addr)) .refusal) 0)
+    by-test (eqb ((decodeOf (candidate i) (i .addr)) .refusal) 0)
     (λ e.
-    split (sameOf ((decodeOf (candidate i) (i .addr)) .insn) i)
+    by-test (sameOf ((decodeOf (candidate i) (i .addr)) .insn) i)
     (λ s ok. simp (e, s) (accepted-of _ (eqb-true _ 0 e) ∙ ap accepted (same-is _ i .0 s)))
     (λ s ok. refusal (simp (e, s) at ok)))
     (λ e ok. refusal (simp e at ok))
@@ -70,18 +71,18 @@ None i = (w : ℕ) → w < 2 ^ 32 → decodeOf w (i .addr) ≡ accepted i → �
 -- what is refused is refused by 4, and a word has 32 bits
 four : (i : Insn) → eqb ((encodeOf i) .refusal) 0 ≡ false → (encodeOf i) .refusal ≡ 4
 four i =
-    split (eqb ((decodeOf (candidate i) (i .addr)) .refusal) 0)
+    by-test (eqb ((decodeOf (candidate i) (i .addr)) .refusal) 0)
     (λ e.
-    split (sameOf ((decodeOf (candidate i) (i .addr)) .insn) i)
+    by-test (sameOf ((decodeOf (candidate i) (i .addr)) .insn) i)
     (λ s no. absurd (true≢false (simp (e, s) at no)))
     (λ s no. simp (e, s)))
     (λ e no. simp e)
 
 small : (i : Insn) → (encodeOf i) .word < 2 ^ 32
 small i =
-    split (eqb ((decodeOf (candidate i) (i .addr)) .refusal) 0)
+    by-test (eqb ((decodeOf (candidate i) (i .addr)) .refusal) 0)
     (λ e.
-    split (sameOf ((decodeOf (candidate i) (i .addr)) .insn) i)
+    by-test (sameOf ((decodeOf (candidate i) (i .addr)) .insn) i)
     (λ s. simp (e, s) (fits i))
     (λ s. simp (e, s) (pow-pos 32)))
     (λ e. simp e (pow-pos 32))
@@ -94,6 +95,6 @@ refuses-exactly i = (none, refuses)
 
     refuses : None i → (encodeOf i) .refusal ≡ 4
     refuses f =
-        split (eqb ((encodeOf i) .refusal) 0)
+        by-test (eqb ((encodeOf i) .refusal) 0)
         (λ e. absurd (f ((encodeOf i) .word) (small i) (gives i (eqb-true _ 0 e))))
         (λ e. four i e)

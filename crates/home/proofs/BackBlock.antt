@@ -5,17 +5,18 @@ use mathlib.Core.List.{[], _∷_}
 use Prim.Native.Nat.{ℕ, _^_, _<_}
 use borrow.Author.Tests.{eqb-true}
 use lib.Dec.{T, eqb, eqb→eq}
-use Rattle.word.specs.Choice.{pick}
+use Rattle.word.specs.Choice.{pick, by-test}
 use Rattle.word.specs.Every.{left, right}
 use Rattle.word.specs.Field.{field}
 use Rattle.word.specs.Layout.{join, whole}
 use Rattle.transfer.specs.Block.{baseOf, multipleOf, stackFormOf, stackOf, blockOf}
-use Rattle.home.specs.Parts.{register, isWriteBack, isAddress}
+use Rattle.parts.specs.Operands.{operandFlat}
+use Rattle.parts.specs.Parts.{isWriteBack, isAddress}
 use Rattle.home.specs.WordTransfer.{blockLayout, blockWord}
-use Rattle.home.proofs.Leads.{Leads, split, bit-cases, two-cases, refusal}
+use Rattle.home.proofs.Leads.{Leads, bit-cases, two-cases, refusal}
 
 -- "Rn (write-back if W)" holds the register and W, and is no address
-based : (w : ℕ) → (register (baseOf w) ≡ field w 16 4) × (pick (isWriteBack (baseOf w)) 1 0 ≡ field w 21 1) × (isAddress (baseOf w) ≡ false)
+based : (w : ℕ) → (operandFlat (baseOf w) .reg ≡ field w 16 4) × (pick (isWriteBack (operandFlat (baseOf w))) 1 0 ≡ field w 21 1) × (isAddress (operandFlat (baseOf w)) ≡ false)
 based w =
     bit-cases w 21
     (λ wb. (simp (wb), simp (wb), simp (wb)))
@@ -48,11 +49,11 @@ module _ (w addr : ℕ) (bound : w < 2 ^ 32) (group : field w 25 3 ≡ 4) (user 
   stack-leads sp wb =
       bit-cases w 20
       (λ l.
-      split (eqb (field w 23 2) 2)
+      by-test (eqb (field w 23 2) 2)
       (λ e ok. let k : field w 23 2 ≡ 2 = eqb-true _ 2 e in (simp (l, k) (simp (sp, wb) at (whole-word 0 2 l k)), simp (l, k), simp (l, k)))
       (λ k. simp (l, k) (simp (l, k) at multiple-leads)))
       (λ l.
-      split (eqb (field w 23 2) 1)
+      by-test (eqb (field w 23 2) 1)
       (λ e ok. let k : field w 23 2 ≡ 1 = eqb-true _ 1 e in (simp (l, k) (simp (sp, wb) at (whole-word 1 1 l k)), simp (l, k), simp (l, k)))
       (λ k. simp (l, k) (simp (l, k) at multiple-leads)))
 
@@ -65,10 +66,10 @@ pub block-leads : (w addr : ℕ) → w < 2 ^ 32 → field w 25 3 ≡ 4 → Leads
 block-leads w addr bound group =
     bit-cases w 22
     (λ user.
-    split (eqb (field w 0 16) 0)
+    by-test (eqb (field w 0 16) 0)
     (λ none ok. refusal (simp (user, none) at ok))
     (λ some.
-    split (stackOf w)
+    by-test (stackOf w)
     (λ stack. let fixed : (field w 16 4 ≡ 13) × (field w 21 1 ≡ 1) = stacked w (subst T (sym stack) tt) in
     simp (user, some, stack) (stack-leads w addr bound group user (fixed .0) (fixed .1)))
     (λ plain. simp (user, some, plain) (multiple-leads w addr bound group user))))

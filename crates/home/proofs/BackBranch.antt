@@ -6,15 +6,16 @@ use Prim.Native.Nat.{ℕ, _+_, _-_, _*_, _/_, _%_, _^_, _<_}
 use native.Mathlib.Omega.{arith}
 use borrow.Author.Tests.{ltb-true}
 use lib.Dec.{eqb, ltb}
+use Rattle.word.specs.Choice.{by-test}
 use Rattle.word.specs.Field.{field, small}
 use Rattle.word.specs.Signed.{sextOf}
 use Rattle.word.specs.Layout.{join, whole}
 use Rattle.insn.specs.Name.{BLX}
 use Rattle.transfer.specs.Branch.{targetFrom, branchOf}
 use Rattle.transfer.specs.Unconditional.{blxOf}
-use Rattle.home.specs.Parts.{place, isAddress}
+use Rattle.parts.specs.Parts.{at, isAddress}
 use Rattle.home.specs.WordTransfer.{offsetOf, branchLayout, branchWord, blxWord}
-use Rattle.home.proofs.Leads.{split, bit-cases}
+use Rattle.home.proofs.Leads.{bit-cases}
 
 -- what is added to a number, and wraps, is had back by taking the number away
 back : (a s e : ℕ) → s + e < 2 ^ 32 → ((a + s + e) % 2 ^ 32 + (2 ^ 32 - a % 2 ^ 32)) % 2 ^ 32 ≡ s + e
@@ -25,7 +26,7 @@ sext-parts : (f e : ℕ) → f < 2 ^ 24 → e < 4
     → (sextOf (4 * f) 26 + e < 2 ^ 32) × ((sextOf (4 * f) 26 + e) / 4 % 2 ^ 24 ≡ f) × ((sextOf (4 * f) 26 + e) / 2 % 2 ≡ e / 2)
 unfolding sextOf
 sext-parts f e h g =
-    split (ltb (4 * f) (2 ^ 25)) (λ low. simp (low) (omega (arith, ltb-true (4 * f) (2 ^ 25) low))) (λ high. simp (high) (omega arith))
+    by-test (ltb (4 * f) (2 ^ 25)) (λ low. simp (low) (omega (arith, ltb-true (4 * f) (2 ^ 25) low))) (λ high. simp (high) (omega arith))
 
 module _ (w addr extra : ℕ) (few : extra < 4) where
   -- the offset of a branch, off its target
@@ -46,10 +47,10 @@ module _ (w addr : ℕ) (bound : w < 2 ^ 32) (group : field w 25 3 ≡ 5) where
   whole-word bit is-bit = simp (group, is-bit) at (whole branchLayout w bound)
 
   pub branch-leads : eqb (field w 28 4) 15 ≡ false → (branchOf w addr) .refusal ≡ 0
-      → (branchWord ((branchOf w addr) .insn) ≡ w) × (isAddress (place ((branchOf w addr) .insn) 0) ≡ true) × (eqb ((branchOf w addr) .insn .name) BLX ≡ false)
+      → (branchWord ((branchOf w addr) .insn) ≡ w) × (isAddress (at ((branchOf w addr) .insn) 0) ≡ true) × (eqb ((branchOf w addr) .insn .name) BLX ≡ false)
   branch-leads below ok =
       bit-cases w 24
-      (λ b. split (eqb (field w 28 4) 14)
+      (λ b. by-test (eqb (field w 28 4) 14)
       (λ c. (simp (b, c, near) (whole-word 0 b), simp (b, c), simp (b, c)))
       (λ c. (simp (b, c, near) (whole-word 0 b), simp (b, c), simp (b, c))))
       (λ b. (simp (b, near) (whole-word 1 b), simp (b), simp (b)))
@@ -58,7 +59,7 @@ module _ (w addr : ℕ) (bound : w < 2 ^ 32) (group : field w 25 3 ≡ 5) where
       near = bits-back w addr 0 (omega arith)
 
   pub blx-leads : field w 28 4 ≡ 15
-      → (blxWord ((blxOf w addr) .insn) ≡ w) × (isAddress (place ((blxOf w addr) .insn) 0) ≡ true) × (((blxOf w addr) .insn .name) ≡ BLX)
+      → (blxWord ((blxOf w addr) .insn) ≡ w) × (isAddress (at ((blxOf w addr) .insn) 0) ≡ true) × (((blxOf w addr) .insn .name) ≡ BLX)
   blx-leads never = (simp (bits-back w addr (field w 24 1 * 2) few, half) (whole-word (field w 24 1) refl), refl, refl)
     where
       few : field w 24 1 * 2 < 4

@@ -2,23 +2,24 @@
 use mathlib.Core.Path.{_≡_, refl}
 use mathlib.Core.Bool.{true, false, true≢false}
 use Prim.Native.Nat.{ℕ, zero, suc, _%_, _^_, _<_}
-use native.Mathlib.Nat.{lt-of-le-of-lt}
 use borrow.Author.Tests.{eqb-true}
 use lib.Dec.{eqb}
-use lib.IntN.{natAbs}
-use Rattle.word.specs.Field.{field, clear, clear-le}
-use Rattle.word.specs.Layout.{whole}
+use Rattle.word.specs.Choice.{by-test}
+use Rattle.word.specs.Field.{field, clear, clear-small}
+use Rattle.word.specs.Layout.{whole, upper, lower}
 use Rattle.word.specs.Signed.{minus}
+use Rattle.insn.specs.Numbers.{modeNumber}
 use Rattle.multiply.specs.Multiply.{multiplyOf}
 use Rattle.ldst.specs.ExtraLdst.{memoryOf, subtractedIndexOf}
 use Rattle.ldst.specs.Mem.{unprivilegedOf, modeOf, minusZeroOf}
 use Rattle.a32.specs.Decode.{extraOf}
 use Rattle.home.specs.Table.{ignored, MUL-ROW, ALL-READ}
 use Rattle.home.specs.Home.{clearAll, extraRow}
-use Rattle.home.specs.Parts.{memory}
-use Rattle.home.specs.WordExtra.{extra-layout, bitP, bitW, bitU, transfer, extraWord}
-use Rattle.home.proofs.Leads.{apart, Leads, split, bit-cases, two-cases, refusal, magnitude}
-use Rattle.home.proofs.Digits.{upper, lower}
+use Rattle.parts.specs.Operands.{signNumber, markNumber, operandFlat}
+use Rattle.parts.specs.Parts.{bitU, bitW}
+use Rattle.home.specs.WordExtra.{extra-layout, transfer, extraWord}
+use Rattle.home.proofs.Leads.{apart, Leads, bit-cases, two-cases, refusal, magnitude}
+use Rattle.home.proofs.BackLdst.{has-P}
 use Rattle.home.proofs.BackMultiply.{mul-leads, rest-leads}
 use Rattle.home.proofs.BackSync.{sync-keeps, sync-leads}
 
@@ -26,22 +27,20 @@ pub extra-keeps : (w addr : ℕ) → field w 25 3 ≡ 0 → field w 7 1 ≡ 1 �
     → extraOf (clearAll (ignored (extraRow w)) w) addr ≡ extraOf w addr
 unfolding extraOf extraRow unprivilegedOf subtractedIndexOf
 extra-keeps w addr group seven four =
-    split (eqb (field w 5 2) 0)
+    by-test (eqb (field w 5 2) 0)
     (λ kind.
     bit-cases w 24
-    (λ p. split (eqb (field w 21 3) 0) (λ op. simp (apart, kind, p, op)) (λ op. simp (kind, p, op)))
+    (λ p. by-test (eqb (field w 21 3) 0) (λ op. simp (apart, kind, p, op)) (λ op. simp (kind, p, op)))
     (sync-keeps w addr (eqb-true _ 0 kind)))
-    (λ kind. split (eqb (field w 22 1) 0) (λ i. simp (apart, kind, i)) (λ i. simp (kind, i)))
+    (λ kind. by-test (eqb (field w 22 1) 0) (λ i. simp (apart, kind, i)) (λ i. simp (kind, i)))
 
-down : (n : ℕ) → bitU (minus n) (eqb n 0) ≡ 0
+-- U is clear for a displacement that is subtracted, with the mark of minus zero
+down : (n : ℕ) → bitU (signNumber (minus n)) (markNumber (eqb n 0)) ≡ 0
 down zero = refl
-down (suc n) = split (eqb (suc n) 0) (λ e. simp e) (λ e. simp e)
+down (suc n) = by-test (eqb (suc n) 0) (λ e. simp e) (λ e. simp e)
 
--- the mode has P, and W where it is not refused
-has-P : (w : ℕ) → bitP (modeOf w) ≡ field w 24 1
-has-P w = bit-cases w 24 (λ p. simp p) (λ p. bit-cases w 21 (λ b. simp (p, b)) (λ b. simp (p, b)))
-
-has-W : (w : ℕ) → unprivilegedOf w ≡ false → bitW (modeOf w) ≡ field w 21 1
+-- the mode has W where it is not refused
+has-W : (w : ℕ) → unprivilegedOf w ≡ false → bitW (modeNumber (modeOf w)) ≡ field w 21 1
 unfolding unprivilegedOf
 has-W w post =
     bit-cases w 24
@@ -52,7 +51,7 @@ module _ (w addr : ℕ) (bound : w < 2 ^ 32) (group : field w 25 3 ≡ 0) (seven
   -- the memory form of an extra load or store, beside its kind and L, gives its home word
   home : (kind l size : ℕ) → eqb (field w 5 2) 0 ≡ false → field w 5 2 ≡ kind → field w 20 1 ≡ l
       → unprivilegedOf w ≡ false → subtractedIndexOf w ≡ false
-      → transfer (field w 28 4) (field w 12 4) kind l (memory (memoryOf w size)) ≡ clearAll (ignored (extraRow w)) w
+      → transfer (field w 28 4) (field w 12 4) kind l (operandFlat (memoryOf w size)) ≡ clearAll (ignored (extraRow w)) w
   unfolding extraRow subtractedIndexOf minusZeroOf
   home kind l size other is-kind is-l post added =
       bit-cases w 22
@@ -62,14 +61,14 @@ module _ (w addr : ℕ) (bound : w < 2 ^ 32) (group : field w 25 3 ≡ 0) (seven
       (λ u.
       simp (other, i, u, has-P, has-W w post)
       (simp (apart, group, seven, four, is-kind, is-l, i, u) at
-      (whole extra-layout (clear w 8 4) (lt-of-le-of-lt (clear-le w 8 4) bound)))))
+      (whole extra-layout (clear w 8 4) (clear-small w 8 4 bound)))))
       (λ i.
       bit-cases w 23
       (λ u.
-      simp (other, i, u, has-P, has-W w post, magnitude, down, upper, lower)
+      simp (other, i, u, has-P, has-W w post, magnitude, down, upper w 8 4 0 4, lower w 8 4 0 4)
       (simp (group, seven, four, is-kind, is-l, i, u) at (whole extra-layout w bound)))
       (λ u.
-      simp (other, i, u, has-P, has-W w post, upper, lower)
+      simp (other, i, u, has-P, has-W w post, upper w 8 4 0 4, lower w 8 4 0 4)
       (simp (group, seven, four, is-kind, is-l, i, u) at (whole extra-layout w bound))))
 
   abbrev Row : Type 0
@@ -97,14 +96,14 @@ module _ (w addr : ℕ) (bound : w < 2 ^ 32) (group : field w 25 3 ≡ 0) (seven
     ldrd : field w 5 2 ≡ 2 → field w 20 1 ≡ 0 → Row
     unfolding extraOf
     ldrd k l =
-        split (eqb (field w 12 4 % 2) 1)
+        by-test (eqb (field w 12 4 % 2) 1)
         (λ odd ok. refusal (simp (k, l, post, added, odd) at ok))
         (λ even ok. (simp (k, l, post, added, even) (home 2 0 8 other k l post added), simp (k, l, post, added, even), simp (k, l, post, added, even)))
 
     strd : field w 5 2 ≡ 3 → field w 20 1 ≡ 0 → Row
     unfolding extraOf
     strd k l =
-        split (eqb (field w 12 4 % 2) 1)
+        by-test (eqb (field w 12 4 % 2) 1)
         (λ odd ok. refusal (simp (k, l, post, added, odd) at ok))
         (λ even ok. (simp (k, l, post, added, even) (home 3 0 8 other k l post added), simp (k, l, post, added, even), simp (k, l, post, added, even)))
 
@@ -131,16 +130,16 @@ module _ (w addr : ℕ) (bound : w < 2 ^ 32) (group : field w 25 3 ≡ 0) (seven
 
     multiplies : Row
     multiplies =
-        split (eqb (field w 21 3) 0)
+        by-test (eqb (field w 21 3) 0)
         (λ op. simp (multiplied, mul-row op) (mul-leads w addr bound group seven four kind p (eqb-true _ 0 op)))
         (λ op. simp (multiplied, rest-row op) (rest-leads w addr bound group seven four kind p op))
 
   pub extra-leads : Leads extraWord 49 74 (clearAll (ignored (extraRow w)) w) (extraOf w addr)
   unfolding extraOf
   extra-leads =
-      split (eqb (field w 5 2) 0)
+      by-test (eqb (field w 5 2) 0)
       (λ k. bit-cases w 24 (multiplies (eqb-true _ 0 k)) (λ p. sync-leads w addr (eqb-true _ 0 k) p bound group seven four))
       λ other.
-      split (unprivilegedOf w) (λ post ok. refusal (simp (other, post) at ok)) λ post.
-      split (subtractedIndexOf w) (λ added ok. refusal (simp (other, post, added) at ok)) λ added.
+      by-test (unprivilegedOf w) (λ post ok. refusal (simp (other, post) at ok)) λ post.
+      by-test (subtractedIndexOf w) (λ added ok. refusal (simp (other, post, added) at ok)) λ added.
       transfers other post added

@@ -7,24 +7,25 @@ use native.Mathlib.Omega.{arith}
 use borrow.Author.Tests.{eqb-true, eqb-false}
 use lib.Dec.{eqb}
 use lib.IntN.{natAbs}
-use Rattle.word.specs.Choice.{pick}
+use Rattle.word.specs.Choice.{pick, inside, by-test, fails}
 use Rattle.word.specs.Field.{field, put, small, splits}
-use Rattle.word.specs.Layout.{join, whole}
+use Rattle.word.specs.Layout.{join, whole, rejoin}
 use Rattle.word.specs.Signed.{minus}
+use Rattle.insn.specs.Numbers.{modeNumber}
 use Rattle.ldst.specs.Mem.{unprivilegedOf, modeOf, postOf, dispOf, minusZeroOf}
 use Rattle.ldst.specs.Ldst.{nameOf, refusedIndexOf, markedOf, ldstOf}
 use Rattle.home.specs.Home.{raisesOf, raised}
-use Rattle.home.specs.Parts.{up}
-use Rattle.home.specs.WordExtra.{bitP, bitU}
-use Rattle.home.specs.WordLdst.{loadBit, byteBit, userBit, writeBit, immediateLayout, indexLayout, ldstWord}
-use Rattle.home.proofs.Leads.{apart, Leads, inside, split, bit-cases, magnitude, refusal, fails, raised-above, raised-below, raised-small}
+use Rattle.parts.specs.Operands.{signNumber, markNumber}
+use Rattle.parts.specs.Parts.{bitP, bitU}
+use Rattle.home.specs.WordLdst.{loadBit, byteBit, userBit, writeBit, indexLayout, offset12, addedBit, layout, ldstWord}
+use Rattle.home.proofs.Leads.{apart, Leads, bit-cases, magnitude, refusal, raised-above, raised-below, raised-small}
 
 -- 27:25 is 27:26 and bit 25
 form : (w b : ℕ) → field w 26 2 ≡ 1 → field w 25 1 ≡ b → field w 25 3 ≡ 2 + b
 form w b h l = omega (arith, splits w 25 2 1)
 
 -- a displacement below 0 is subtracted
-minus-down : (n : ℕ) → eqb n 0 ≡ false → up (minus n) ≡ 0
+minus-down : (n : ℕ) → eqb n 0 ≡ false → signNumber (minus n) ≡ 1
 minus-down zero h = absurd (eqb-false 0 0 h refl)
 minus-down (suc n) h = refl
 
@@ -33,7 +34,7 @@ module _ (w : ℕ) where
   name-tells : (loadBit (nameOf w) ≡ field w 20 1) × (byteBit (nameOf w) ≡ field w 22 1) × (userBit (nameOf w) ≡ pick (unprivilegedOf w) 1 0) × (inside 82 89 (nameOf w) ≡ true)
   unfolding loadBit byteBit userBit
   name-tells =
-      split (unprivilegedOf w)
+      by-test (unprivilegedOf w)
       (λ t.
       bit-cases w 20
       (λ l. bit-cases w 22 (λ b. simp (t, l, b) (refl, refl, refl, refl)) (λ b. simp (t, l, b) (refl, refl, refl, refl)))
@@ -43,14 +44,15 @@ module _ (w : ℕ) where
       (λ l. bit-cases w 22 (λ b. simp (t, l, b) (refl, refl, refl, refl)) (λ b. simp (t, l, b) (refl, refl, refl, refl)))
       (λ l. bit-cases w 22 (λ b. simp (t, l, b) (refl, refl, refl, refl)) (λ b. simp (t, l, b) (refl, refl, refl, refl))))
 
-  before-back : bitP (modeOf w) ≡ field w 24 1
-  before-back = bit-cases w 24 (λ p. simp p) (λ p. bit-cases w 21 (λ b. simp (p, b)) (λ b. simp (p, b)))
+  -- the mode has P
+  pub has-P : bitP (modeNumber (modeOf w)) ≡ field w 24 1
+  has-P = bit-cases w 24 (λ p. simp p) (λ p. bit-cases w 21 (λ b. simp (p, b)) (λ b. simp (p, b)))
 
   user-back : field w 24 1 ≡ 0 → pick (unprivilegedOf w) 1 0 ≡ field w 21 1
   unfolding unprivilegedOf
   user-back p = bit-cases w 21 (λ b. simp (p, b)) (λ b. simp (p, b))
 
-  write-back : writeBit (modeOf w) (nameOf w) ≡ field w 21 1
+  write-back : writeBit (modeNumber (modeOf w)) (nameOf w) ≡ field w 21 1
   unfolding writeBit
   write-back =
       bit-cases w 24
@@ -62,11 +64,13 @@ module _ (w : ℕ) where
 
   -- U, from the sign of a displacement that is not 0 and the mark of one that is; in offset mode the home word has it set
   abbrev Up : Type 0
-  Up = bitU (dispOf w (field w 0 12)) (markedOf w (field w 0 12)) ≡ field (raised (raisesOf w) w) 23 1
+  Up =
+      bitU (signNumber (dispOf w (field w 0 12))) (markNumber (markedOf w (field w 0 12)))
+      ≡ field (raised (raisesOf w) w) 23 1
 
   up-back : eqb (field w 28 4) 15 ≡ false → field w 25 3 ≡ 2 → Up
   unfolding markedOf minusZeroOf raisesOf
-  up-back cond imm = split (eqb (field w 0 12) 0) (λ z. none (eqb-true _ 0 z)) some
+  up-back cond imm = by-test (eqb (field w 0 12) 0) (λ z. none (eqb-true _ 0 z)) some
     where
       some : eqb (field w 0 12) 0 ≡ false → Up
       some z =
@@ -86,31 +90,34 @@ module _ (w : ℕ) where
 module _ (w addr : ℕ) (bound : w < 2 ^ 32) (cond : eqb (field w 28 4) 15 ≡ false) (group : field w 26 2 ≡ 1) where
   -- "Immediate 11:0"
   immediate-leads : field w 25 1 ≡ 0 → Leads ldstWord 82 89 (raised (raisesOf w) w) (ldstOf w addr)
-  unfolding refusedIndexOf
+  unfolding refusedIndexOf offset12 addedBit
   immediate-leads form0 ok =
-      (simp (form0, magnitude-back w, up-back w cond (form w 0 group form0), name-tells w .0, name-tells w .1, write-back w, before-back w) home-word, simp form0 (name-tells w .3), simp form0)
+      (simp (form0, magnitude-back w, up-back w cond (form w 0 group form0), name-tells w .0, name-tells w .1, write-back w, has-P w) home-word, simp form0 (name-tells w .3), simp form0)
     where
-      home-word : join immediateLayout (field w 0 12 ∷ field w 12 4 ∷ field w 16 4 ∷ field w 20 1 ∷ field w 21 1 ∷ field w 22 1 ∷ field (raised (raisesOf w) w) 23 1 ∷ field w 24 1 ∷ 0 ∷ 1 ∷ field w 28 4 ∷ [])
+      home-word : join layout (field w 0 12 ∷ field w 12 4 ∷ field w 16 4 ∷ field w 20 1 ∷ field w 21 1 ∷ field w 22 1 ∷ field (raised (raisesOf w) w) 23 1 ∷ field w 24 1 ∷ 0 ∷ 1 ∷ field w 28 4 ∷ [])
           ≡ raised (raisesOf w) w
       home-word =
-          simp (raised-above (raisesOf w) w, raised-below (raisesOf w) w, group, form0) at (whole immediateLayout (raised (raisesOf w) w) (raised-small (raisesOf w) w bound))
+          simp (raised-above (raisesOf w) w, raised-below (raisesOf w) w, group, form0) at (whole layout (raised (raisesOf w) w) (raised-small (raisesOf w) w bound))
 
   -- "Index form needs U set and 6:5 = 00"
   index-leads : field w 25 1 ≡ 1 → field w 4 1 ≡ 0 → Leads ldstWord 82 89 w (ldstOf w addr)
-  unfolding refusedIndexOf
+  unfolding refusedIndexOf offset12 addedBit
   index-leads form1 four =
       bit-cases w 23 (λ u ok. refusal (simp (form1, u) at ok)) λ u.
-      split (eqb (field w 5 2) 0)
+      by-test (eqb (field w 5 2) 0)
       (λ z ok. (
-        simp (form1, u, z, name-tells w .0, name-tells w .1, write-back w, before-back w) (index-word u (eqb-true _ 0 z)),
+        simp (form1, u, z, name-tells w .0, name-tells w .1, write-back w, has-P w) (index-word u (eqb-true _ 0 z)),
         simp (form1, u, z) (name-tells w .3),
         simp (form1, u, z),
       ))
       (λ z ok. refusal (simp (form1, u, z) at ok))
     where
+      index12 : field w 5 2 ≡ 0 → join indexLayout (field w 0 4 ∷ 0 ∷ 0 ∷ field w 7 5 ∷ []) ≡ field w 0 12
+      index12 z = simp (four, z) at (rejoin indexLayout 0 w)
+
       index-word : field w 23 1 ≡ 1 → field w 5 2 ≡ 0
-          → join indexLayout (field w 0 4 ∷ 0 ∷ 0 ∷ field w 7 5 ∷ field w 12 4 ∷ field w 16 4 ∷ field w 20 1 ∷ field w 21 1 ∷ field w 22 1 ∷ 1 ∷ field w 24 1 ∷ 1 ∷ 1 ∷ field w 28 4 ∷ []) ≡ w
-      index-word u z = simp (form1, four, group, u, z) at (whole indexLayout w bound)
+          → join layout (join indexLayout (field w 0 4 ∷ 0 ∷ 0 ∷ field w 7 5 ∷ []) ∷ field w 12 4 ∷ field w 16 4 ∷ field w 20 1 ∷ field w 21 1 ∷ field w 22 1 ∷ 1 ∷ field w 24 1 ∷ 1 ∷ 1 ∷ field w 28 4 ∷ []) ≡ w
+      index-word u z = rw (index12 z) (simp (form1, group, u) at (whole layout w bound))
 
   never-raised : field w 25 1 ≡ 1 → raisesOf w ≡ false
   unfolding raisesOf
@@ -136,13 +143,13 @@ module _ (w addr : ℕ) where
   pub ldst-keeps : eqb (field w 28 4) 15 ≡ false → ldstOf (raised (raisesOf w) w) addr ≡ ldstOf w addr
   unfolding raisesOf
   ldst-keeps cond =
-      split (eqb (field w 0 12) 0)
+      by-test (eqb (field w 0 12) 0)
       (λ z.
-      split (eqb (field w 25 3) 2)
+      by-test (eqb (field w 25 3) 2)
       (λ imm.
-      split (eqb (field w 24 1) 1)
+      by-test (eqb (field w 24 1) 1)
       (λ p.
-      split (eqb (field w 21 1) 0)
+      by-test (eqb (field w 21 1) 0)
       (λ b. by-raise true (simp (cond, z, imm, p, b)) (nothing-added (eqb-true _ 0 z) (eqb-true _ 2 imm) (eqb-true _ 1 p) (eqb-true _ 0 b)))
       (λ b. by-raise false (simp (cond, z, imm, p, b)) refl))
       (λ p. by-raise false (simp (cond, z, imm, p)) refl))

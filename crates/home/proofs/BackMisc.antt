@@ -3,47 +3,43 @@ use mathlib.Core.Path.{_≡_, refl}
 use mathlib.Core.Bool.{Bool, true, false}
 use mathlib.Core.List.{[], _∷_}
 use Prim.Native.Nat.{ℕ, _^_, _<_}
-use native.Mathlib.Nat.{lt-of-le-of-lt}
 use borrow.Author.Tests.{eqb-true}
 use lib.Dec.{eqb}
-use Rattle.word.specs.Choice.{pick}
-use Rattle.word.specs.Field.{field, clear, clear-le}
-use Rattle.word.specs.Layout.{join, whole}
+use Rattle.word.specs.Choice.{pick, by-test}
+use Rattle.word.specs.Field.{field, clear, clear-small}
+use Rattle.word.specs.Layout.{join, whole, upper, lower}
 use Rattle.misc.specs.Misc.{miscOf}
 use Rattle.insn.specs.declared.Decoded.{Decoded}
 use Rattle.insn.specs.declared.Operand.{Operand}
 use Rattle.home.specs.Table.{ignored}
 use Rattle.home.specs.Home.{clearAll, controlRow}
-use Rattle.home.specs.Parts.{place, isCount}
+use Rattle.parts.specs.Operands.{operandFlat}
+use Rattle.parts.specs.Parts.{at, isCount}
 use Rattle.home.specs.WordMisc.{status-layout, single-layout, several-layout, miscWord}
-use Rattle.home.proofs.Leads.{apart, Leads, split, bit-cases, two-cases, refusal}
-use Rattle.home.proofs.Digits.{upper, lower}
+use Rattle.home.proofs.Leads.{apart, Leads, bit-cases, two-cases, refusal}
 
 pub misc-keeps : (w addr : ℕ) → miscOf (clearAll (ignored (controlRow w)) w) addr ≡ miscOf w addr
 unfolding controlRow
 misc-keeps w addr =
-    split (eqb (field w 4 3) 0)
-    (λ e. split (eqb (field w 21 1) 0) (λ b. simp (apart, e, b)) (λ b. simp (apart, e, b)))
+    by-test (eqb (field w 4 3) 0)
+    (λ e. by-test (eqb (field w 21 1) 0) (λ b. simp (apart, e, b)) (λ b. simp (apart, e, b)))
     λ n0.
-    split (eqb (field w 4 3) 1)
-    (λ e. split (eqb (field w 21 2) 1) (λ b. simp (apart, n0, e, b)) (λ b. simp (apart, n0, e, b)))
+    by-test (eqb (field w 4 3) 1)
+    (λ e. by-test (eqb (field w 21 2) 1) (λ b. simp (apart, n0, e, b)) (λ b. simp (apart, n0, e, b)))
     λ n1.
-    split (eqb (field w 4 3) 2) (λ e. simp (apart, n0, n1, e)) λ n2.
-    split (eqb (field w 4 3) 3) (λ e. simp (apart, n0, n1, n2, e)) λ n3.
-    split (eqb (field w 4 3) 5) (λ e. simp (apart, n0, n1, n2, n3, e)) λ n5.
+    by-test (eqb (field w 4 3) 2) (λ e. simp (apart, n0, n1, e)) λ n2.
+    by-test (eqb (field w 4 3) 3) (λ e. simp (apart, n0, n1, n2, e)) λ n3.
+    by-test (eqb (field w 4 3) 5) (λ e. simp (apart, n0, n1, n2, n3, e)) λ n5.
     simp (n0, n1, n2, n3, n5)
 
 module _ (w addr : ℕ) (bound : w < 2 ^ 32) (group : field w 25 3 ≡ 0) (ten : field w 23 2 ≡ 2) (s : field w 20 1 ≡ 0) (seven : field w 7 1 ≡ 0) where
-  below : (lo k : ℕ) → clear w lo k < 2 ^ 32
-  below lo k = lt-of-le-of-lt (clear-le w lo k) bound
-
   abbrev Row : Type 0
   Row = Leads miscWord 38 48 (clearAll (ignored (controlRow w)) w) (miscOf w addr)
 
   mrs : field w 4 3 ≡ 0 → field w 21 1 ≡ 0 → Row
   unfolding controlRow
   mrs e m =
-      split (eqb (field w 9 1) 0)
+      by-test (eqb (field w 9 1) 0)
       (λ nine.
       bit-cases w 22
       (λ r ok. (simp (e, m, nine, r) (home 0 r (eqb-true _ 0 nine)), simp (e, m, nine, r), simp (e, m, nine, r)))
@@ -56,13 +52,13 @@ module _ (w addr : ℕ) (bound : w < 2 ^ 32) (group : field w 25 3 ≡ 0) (ten :
       home n r nine =
           simp (apart, group, ten, s, seven, e, m, r, nine) at
           (whole status-layout (clear (clear (clear (clear w 16 4) 10 2) 8 1) 0 4)
-          (lt-of-le-of-lt (clear-le _ 0 4) (lt-of-le-of-lt (clear-le _ 8 1) (lt-of-le-of-lt (clear-le _ 10 2) (below 16 4)))))
+          (clear-small _ 0 4 (clear-small _ 8 1 (clear-small _ 10 2 (clear-small w 16 4 bound)))))
 
   msr : field w 4 3 ≡ 0 → field w 21 1 ≡ 1 → Row
   unfolding controlRow
   msr e m =
-      split (eqb (field w 9 1) 0)
-      (λ nine ok. (simp (e, m, nine, upper, lower) (home (eqb-true _ 0 nine)), simp (e, m, nine), simp (e, m, nine)))
+      by-test (eqb (field w 9 1) 0)
+      (λ nine ok. (simp (e, m, nine, upper w 22 1 16 4, lower w 22 1 16 4) (home (eqb-true _ 0 nine)), simp (e, m, nine), simp (e, m, nine)))
       (λ nine ok. refusal (simp (e, nine) at ok))
     where
       home : field w 9 1 ≡ 0
@@ -71,19 +67,19 @@ module _ (w addr : ℕ) (bound : w < 2 ^ 32) (group : field w 25 3 ≡ 0) (ten :
       home nine =
           simp (apart, group, ten, s, seven, e, m, nine) at
           (whole status-layout (clear (clear (clear w 12 4) 10 2) 8 1)
-          (lt-of-le-of-lt (clear-le _ 8 1) (lt-of-le-of-lt (clear-le _ 10 2) (below 12 4))))
+          (clear-small _ 8 1 (clear-small _ 10 2 (clear-small w 12 4 bound))))
 
   -- bx, bxj and blx ignore 19:8
   exchange : (kind : ℕ) → field w 4 3 ≡ kind → field w 21 2 ≡ 1
       → join single-layout (field w 0 4 ∷ kind ∷ 0 ∷ 0 ∷ 0 ∷ 1 ∷ 2 ∷ 0 ∷ field w 28 4 ∷ []) ≡ clear w 8 12
-  exchange kind e op = simp (apart, group, ten, s, seven, e, op) at (whole single-layout (clear w 8 12) (below 8 12))
+  exchange kind e op = simp (apart, group, ten, s, seven, e, op) at (whole single-layout (clear w 8 12) (clear-small w 8 12 bound))
 
   bx : field w 4 3 ≡ 1 → Row
   unfolding controlRow
   bx e =
-      split (eqb (field w 21 2) 1)
+      by-test (eqb (field w 21 2) 1)
       (λ op ok. (simp (e, op) (exchange 1 e (eqb-true _ 1 op)), simp (e, op), simp (e, op)))
-      (λ op. split (eqb (field w 21 2) 3) (clz op) (λ n3 ok. refusal (simp (e, op, n3) at ok)))
+      (λ op. by-test (eqb (field w 21 2) 3) (clz op) (λ n3 ok. refusal (simp (e, op, n3) at ok)))
     where
       clz : eqb (field w 21 2) 1 ≡ false → eqb (field w 21 2) 3 ≡ true → Row
       clz n1 op ok = (simp (e, n1, op) (home (eqb-true _ 3 op)), simp (e, n1, op), simp (e, n1, op))
@@ -93,19 +89,19 @@ module _ (w addr : ℕ) (bound : w < 2 ^ 32) (group : field w 25 3 ≡ 0) (ten :
               ≡ clear (clear w 16 4) 8 4
           home op3 =
               simp (apart, group, ten, s, seven, e, op3) at
-              (whole several-layout (clear (clear w 16 4) 8 4) (lt-of-le-of-lt (clear-le _ 8 4) (below 16 4)))
+              (whole several-layout (clear (clear w 16 4) 8 4) (clear-small _ 8 4 (clear-small w 16 4 bound)))
 
   bxj : field w 4 3 ≡ 2 → Row
   unfolding controlRow
   bxj e =
-      split (eqb (field w 21 2) 1)
+      by-test (eqb (field w 21 2) 1)
       (λ op ok. (simp (e, op) (exchange 2 e (eqb-true _ 1 op)), simp (e, op), simp (e, op)))
       (λ op ok. refusal (simp (e, op) at ok))
 
   blx : field w 4 3 ≡ 3 → Row
   unfolding controlRow
   blx e =
-      split (eqb (field w 21 2) 1)
+      by-test (eqb (field w 21 2) 1)
       (λ op ok. (simp (e, op) (exchange 3 e (eqb-true _ 1 op)), simp (e, op), simp (e, op)))
       (λ op ok. refusal (simp (e, op) at ok))
 
@@ -122,14 +118,14 @@ module _ (w addr : ℕ) (bound : w < 2 ^ 32) (group : field w 25 3 ≡ 0) (ten :
       home : (n : ℕ) → field w 21 2 ≡ n
           → join several-layout (field w 0 4 ∷ 5 ∷ 0 ∷ 0 ∷ field w 12 4 ∷ field w 16 4 ∷ 0 ∷ n ∷ 2 ∷ 0 ∷ field w 28 4 ∷ [])
           ≡ clear w 8 4
-      home n op = simp (apart, group, ten, s, seven, e, op) at (whole several-layout (clear w 8 4) (below 8 4))
+      home n op = simp (apart, group, ten, s, seven, e, op) at (whole several-layout (clear w 8 4) (clear-small w 8 4 bound))
 
   -- bkpt ignores nothing
   bkpt : field w 4 3 ≡ 7 → Row
   unfolding controlRow
   bkpt e =
-      split (eqb (field w 21 2) 1)
-      (λ op ok. (simp (e, op, upper, lower) (home (eqb-true _ 1 op)), simp (e, op), simp (e, op)))
+      by-test (eqb (field w 21 2) 1)
+      (λ op ok. (simp (e, op, upper w 8 12 0 4, lower w 8 12 0 4) (home (eqb-true _ 1 op)), simp (e, op), simp (e, op)))
       (λ op ok. refusal (simp (e, op) at ok))
     where
       home : field w 21 2 ≡ 1
@@ -138,28 +134,27 @@ module _ (w addr : ℕ) (bound : w < 2 ^ 32) (group : field w 25 3 ≡ 0) (ten :
 
   pub misc-leads : Leads miscWord 38 48 (clearAll (ignored (controlRow w)) w) (miscOf w addr)
   misc-leads =
-      split (eqb (field w 4 3) 0) (λ e. bit-cases w 21 (mrs (eqb-true _ 0 e)) (msr (eqb-true _ 0 e))) λ n0.
-      split (eqb (field w 4 3) 1) (λ e. bx (eqb-true _ 1 e)) λ n1.
-      split (eqb (field w 4 3) 2) (λ e. bxj (eqb-true _ 2 e)) λ n2.
-      split (eqb (field w 4 3) 3) (λ e. blx (eqb-true _ 3 e)) λ n3.
-      split (eqb (field w 4 3) 5) (λ e. saturating (eqb-true _ 5 e)) λ n5.
-      split (eqb (field w 4 3) 7) (λ e. bkpt (eqb-true _ 7 e)) λ n7.
+      by-test (eqb (field w 4 3) 0) (λ e. bit-cases w 21 (mrs (eqb-true _ 0 e)) (msr (eqb-true _ 0 e))) λ n0.
+      by-test (eqb (field w 4 3) 1) (λ e. bx (eqb-true _ 1 e)) λ n1.
+      by-test (eqb (field w 4 3) 2) (λ e. bxj (eqb-true _ 2 e)) λ n2.
+      by-test (eqb (field w 4 3) 3) (λ e. blx (eqb-true _ 3 e)) λ n3.
+      by-test (eqb (field w 4 3) 5) (λ e. saturating (eqb-true _ 5 e)) λ n5.
+      by-test (eqb (field w 4 3) 7) (λ e. bkpt (eqb-true _ 7 e)) λ n7.
       λ ok. refusal (simp (n0, n1, n2, n3, n5, n7) at ok)
 
--- a test passes through a choice
-through : (b : Bool) (x y : Decoded)
-    → isCount (place ((pick b x y) .insn) 1) ≡ pick b (isCount (place (x .insn) 1)) (isCount (place (y .insn) 1))
-through true x y = refl
-through false x y = refl
-
-inward : (b : Bool) (x y : Operand) → isCount (pick b x y) ≡ pick b (isCount x) (isCount y)
-inward true x y = refl
-inward false x y = refl
-
-neither : (b : Bool) → pick b false false ≡ false
-neither true = refl
-neither false = refl
-
 -- no control word has a count at place 1
-pub misc-second : (w addr : ℕ) → (miscOf w addr) .refusal ≡ 0 → isCount (place ((miscOf w addr) .insn) 1) ≡ false
+pub misc-second : (w addr : ℕ) → (miscOf w addr) .refusal ≡ 0 → isCount (at ((miscOf w addr) .insn) 1) ≡ false
 misc-second w addr ok = simp (through, inward, neither)
+  where
+    -- a test passes through a choice
+    through : (b : Bool) (x y : Decoded) → isCount (at ((pick b x y) .insn) 1) ≡ pick b (isCount (at (x .insn) 1)) (isCount (at (y .insn) 1))
+    through true x y = refl
+    through false x y = refl
+
+    inward : (b : Bool) (x y : Operand) → isCount (operandFlat (pick b x y)) ≡ pick b (isCount (operandFlat x)) (isCount (operandFlat y))
+    inward true x y = refl
+    inward false x y = refl
+
+    neither : (b : Bool) → pick b false false ≡ false
+    neither true = refl
+    neither false = refl

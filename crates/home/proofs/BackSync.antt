@@ -2,17 +2,17 @@
 use mathlib.Core.Path.{_≡_, sym, ap, _∙_}
 use mathlib.Core.List.{[], _∷_}
 use Prim.Native.Nat.{ℕ, _%_, _^_, _<_}
-use native.Mathlib.Nat.{lt-of-le-of-lt}
 use borrow.Author.Tests.{eqb-true}
 use lib.Dec.{eqb}
 use lib.Pow.{low}
-use Rattle.word.specs.Field.{field, clear, clear-le, small, splits}
+use Rattle.word.specs.Choice.{by-test}
+use Rattle.word.specs.Field.{field, clear, clear-small, small, splits}
 use Rattle.word.specs.Layout.{join, whole}
 use Rattle.a32.specs.Decode.{extraOf}
 use Rattle.home.specs.Table.{ignored}
 use Rattle.home.specs.Home.{clearAll, extraRow}
 use Rattle.home.specs.WordExtra.{sync-layout, extraWord}
-use Rattle.home.proofs.Leads.{apart, Leads, split, bit-cases, refusal}
+use Rattle.home.proofs.Leads.{apart, Leads, bit-cases, refusal}
 
 -- bit 20 is the lowest of 23:20
 lowest : (w n : ℕ) → field w 20 4 ≡ n → field w 20 1 ≡ n % 2
@@ -22,25 +22,22 @@ module _ (w addr : ℕ) (kind : field w 5 2 ≡ 0) (p : field w 24 1 ≡ 1) wher
   pub sync-keeps : extraOf (clearAll (ignored (extraRow w)) w) addr ≡ extraOf w addr
   unfolding extraOf extraRow
   sync-keeps =
-      split (eqb (field w 20 4) 8) (λ e. simp (apart, kind, p, e, lowest w 8 (eqb-true _ 8 e))) λ n8.
-      split (eqb (field w 20 4) 12) (λ e. simp (apart, kind, p, n8, e, lowest w 12 (eqb-true _ 12 e))) λ n12.
-      split (eqb (field w 20 4) 14) (λ e. simp (apart, kind, p, n8, n12, e, lowest w 14 (eqb-true _ 14 e))) λ n14.
+      by-test (eqb (field w 20 4) 8) (λ e. simp (apart, kind, p, e, lowest w 8 (eqb-true _ 8 e))) λ n8.
+      by-test (eqb (field w 20 4) 12) (λ e. simp (apart, kind, p, n8, e, lowest w 12 (eqb-true _ 12 e))) λ n12.
+      by-test (eqb (field w 20 4) 14) (λ e. simp (apart, kind, p, n8, n12, e, lowest w 14 (eqb-true _ 14 e))) λ n14.
       bit-cases w 20 (λ s. simp (apart, kind, p, s)) (λ s. simp (apart, kind, p, s, n8, n12, n14))
 
   module _ (bound : w < 2 ^ 32) (group : field w 25 3 ≡ 0) (seven : field w 7 1 ≡ 1) (four : field w 4 1 ≡ 1) where
-    below : (lo k : ℕ) → clear w lo k < 2 ^ 32
-    below lo k = lt-of-le-of-lt (clear-le w lo k) bound
-
     -- the stores ignore 11:8, and the loads 3:0 too
     storing : (n : ℕ) → field w 20 4 ≡ n
         → join sync-layout (field w 0 4 ∷ 1 ∷ 0 ∷ 1 ∷ 0 ∷ field w 12 4 ∷ field w 16 4 ∷ n ∷ 1 ∷ 0 ∷ field w 28 4 ∷ []) ≡ clear w 8 4
-    storing n op = simp (apart, group, seven, four, kind, p, op) at (whole sync-layout (clear w 8 4) (below 8 4))
+    storing n op = simp (apart, group, seven, four, kind, p, op) at (whole sync-layout (clear w 8 4) (clear-small w 8 4 bound))
 
     loading : (n : ℕ) → field w 20 4 ≡ n
         → join sync-layout (0 ∷ 1 ∷ 0 ∷ 1 ∷ 0 ∷ field w 12 4 ∷ field w 16 4 ∷ n ∷ 1 ∷ 0 ∷ field w 28 4 ∷ []) ≡ clear (clear w 8 4) 0 4
     loading n op =
         simp (apart, group, seven, four, kind, p, op) at
-        (whole sync-layout (clear (clear w 8 4) 0 4) (lt-of-le-of-lt (clear-le _ 0 4) (below 8 4)))
+        (whole sync-layout (clear (clear w 8 4) 0 4) (clear-small _ 0 4 (clear-small w 8 4 bound)))
 
     abbrev Row : Type 0
     Row = Leads extraWord 49 74 (clearAll (ignored (extraRow w)) w) (extraOf w addr)
@@ -48,12 +45,12 @@ module _ (w addr : ℕ) (kind : field w 5 2 ≡ 0) (p : field w 24 1 ≡ 1) wher
     pub sync-leads : Leads extraWord 49 74 (clearAll (ignored (extraRow w)) w) (extraOf w addr)
     unfolding extraOf extraRow
     sync-leads =
-        split (eqb (field w 20 4) 8) (λ e. strex (eqb-true _ 8 e)) λ n8.
-        split (eqb (field w 20 4) 9) (λ e. ldrex (eqb-true _ 9 e)) λ n9.
-        split (eqb (field w 20 4) 12) (λ e. strexb (eqb-true _ 12 e)) λ n12.
-        split (eqb (field w 20 4) 13) (λ e. ldrexb (eqb-true _ 13 e)) λ n13.
-        split (eqb (field w 20 4) 14) (λ e. strexh (eqb-true _ 14 e)) λ n14.
-        split (eqb (field w 20 4) 15) (λ e. ldrexh (eqb-true _ 15 e)) λ n15.
+        by-test (eqb (field w 20 4) 8) (λ e. strex (eqb-true _ 8 e)) λ n8.
+        by-test (eqb (field w 20 4) 9) (λ e. ldrex (eqb-true _ 9 e)) λ n9.
+        by-test (eqb (field w 20 4) 12) (λ e. strexb (eqb-true _ 12 e)) λ n12.
+        by-test (eqb (field w 20 4) 13) (λ e. ldrexb (eqb-true _ 13 e)) λ n13.
+        by-test (eqb (field w 20 4) 14) (λ e. strexh (eqb-true _ 14 e)) λ n14.
+        by-test (eqb (field w 20 4) 15) (λ e. ldrexh (eqb-true _ 15 e)) λ n15.
         λ ok. refusal (simp (kind, p, n8, n9, n12, n13, n14, n15) at ok)
       where
         strex : field w 20 4 ≡ 8 → Row

@@ -3,26 +3,26 @@ use mathlib.Core.Path.{_≡_, refl, sym, subst, _∙_}
 use mathlib.Core.Bool.{Bool, true, false}
 use mathlib.Core.List.{[], _∷_}
 use Prim.Native.Nat.{ℕ, zero, suc, _^_, _<_}
-use native.Mathlib.Nat.{lt-of-le-of-lt}
 use borrow.Author.Tests.{eqb-true, eqb-false}
 use lib.Dec.{T, eqb, eqb→eq}
 use lib.IntN.{pos, natAbs}
-use Rattle.word.specs.Choice.{pick}
+use Rattle.word.specs.Choice.{pick, inside, by-test}
 use Rattle.word.specs.Every.{left, right}
-use Rattle.word.specs.Field.{field, clear, clear-le, put}
+use Rattle.word.specs.Field.{field, clear, clear-small, put}
 use Rattle.word.specs.Layout.{join, whole}
 use Rattle.word.specs.Signed.{minus}
 use Rattle.insn.specs.Name.{PLDW}
 use Rattle.ldst.specs.Mem.{dispOf}
 use Rattle.transfer.specs.Unconditional.{preloadSlot, preloadName, unconditionalOf}
 use Rattle.home.specs.Home.{raised, raisesOf}
-use Rattle.home.specs.Parts.{up}
+use Rattle.parts.specs.Operands.{signNumber}
+use Rattle.parts.specs.Parts.{up}
 use Rattle.home.specs.WordTransfer.{preloadLayout, preloadWord}
-use Rattle.home.proofs.Leads.{apart, Leads, inside, split, bit-cases, refusal, raised-small}
+use Rattle.home.proofs.Leads.{apart, Leads, bit-cases, refusal, raised-small}
 
 -- a displacement that is not 0 holds its magnitude and its sign
 signed-parts : (down : Bool) (off : ℕ) → eqb off 0 ≡ false
-    → (natAbs (pick down (minus off) (pos off)) ≡ off) × (up (pick down (minus off) (pos off)) ≡ pick down 0 1)
+    → (natAbs (pick down (minus off) (pos off)) ≡ off) × (up (signNumber (pick down (minus off) (pos off))) ≡ pick down 0 1)
 signed-parts down zero h = absurd (eqb-false 0 0 h refl)
 signed-parts true (suc n) h = (refl, refl)
 signed-parts false (suc n) h = (refl, refl)
@@ -37,13 +37,13 @@ module _ (w : ℕ) where
   none-parts : field w 0 12 ≡ 0 → dispOf w (field w 0 12) ≡ pos 0
   none-parts none = bit-cases w 23 (λ u. simp (none, u)) (λ u. simp (none, u))
 
-  some-parts : eqb (field w 0 12) 0 ≡ false → (natAbs (dispOf w (field w 0 12)) ≡ field w 0 12) × (up (dispOf w (field w 0 12)) ≡ field w 23 1)
+  some-parts : eqb (field w 0 12) 0 ≡ false → (natAbs (dispOf w (field w 0 12)) ≡ field w 0 12) × (up (signNumber (dispOf w (field w 0 12))) ≡ field w 23 1)
   some-parts some = (parts .0, parts .1 ∙ bit-cases w 23 (λ u. simp (u)) (λ u. simp (u)))
     where
-      parts : (natAbs (dispOf w (field w 0 12)) ≡ field w 0 12) × (up (dispOf w (field w 0 12)) ≡ pick (eqb (field w 23 1) 0) 0 1)
+      parts : (natAbs (dispOf w (field w 0 12)) ≡ field w 0 12) × (up (signNumber (dispOf w (field w 0 12))) ≡ pick (eqb (field w 23 1) 0) 0 1)
       parts = signed-parts (eqb (field w 23 1) 0) (field w 0 12) some
 
-  named : (pick (eqb (preloadName w) PLDW) 1 0 ≡ field w 22 1) × (inside 127 128 (preloadName w) ≡ true)
+  named : (pick (eqb (preloadName w) PLDW) 1 0 ≡ field w 22 1) × (inside 125 128 (preloadName w) ≡ true)
   named = bit-cases w 22 (λ b. (simp (b), simp (b))) (λ b. (simp (b), simp (b)))
 
 module _ (w addr : ℕ) (cond : field w 28 4 ≡ 15) (group : eqb (field w 25 3) 5 ≡ false) where
@@ -58,7 +58,7 @@ module _ (w addr : ℕ) (cond : field w 28 4 ≡ 15) (group : eqb (field w 25 3)
 
   pub preload-keeps : unconditionalOf (raised (raisesOf w) (clear w 20 2)) addr ≡ unconditionalOf w addr
   unfolding preloadSlot
-  preload-keeps = split (eqb (field w 0 12) 0) (λ e. upward (eqb-true _ 0 e)) (λ some. simp (stays some, apart, group))
+  preload-keeps = by-test (eqb (field w 0 12) 0) (λ e. upward (eqb-true _ 0 e)) (λ some. simp (stays some, apart, group))
     where
       upward : field w 0 12 ≡ 0 → unconditionalOf (raised (raisesOf w) (clear w 20 2)) addr ≡ unconditionalOf w addr
       upward none =
@@ -67,11 +67,8 @@ module _ (w addr : ℕ) (cond : field w 28 4 ≡ 15) (group : eqb (field w 25 3)
           (λ u. simp (raises none, apart, group, none, u))
 
 module _ (w addr : ℕ) (bound : w < 2 ^ 32) (cond : field w 28 4 ≡ 15) (group : eqb (field w 25 3) 5 ≡ false) where
-  cleared-small : clear w 20 2 < 2 ^ 32
-  cleared-small = lt-of-le-of-lt (clear-le w 20 2) bound
-
   abbrev Home : Type 0
-  Home = Leads preloadWord 127 128 (raised (raisesOf w) (clear w 20 2)) (unconditionalOf w addr)
+  Home = Leads preloadWord 125 128 (raised (raisesOf w) (clear w 20 2)) (unconditionalOf w addr)
 
   -- a home word is its fields, joined
   none-leads : preloadSlot w ≡ true → (field w 24 4 ≡ 5) × (field w 12 4 ≡ 15) → field w 0 12 ≡ 0 → Home
@@ -82,7 +79,7 @@ module _ (w addr : ℕ) (bound : w < 2 ^ 32) (cond : field w 28 4 ≡ 15) (group
   )
     where
       home : join preloadLayout (0 ∷ 15 ∷ field w 16 4 ∷ 0 ∷ field w 22 1 ∷ 1 ∷ 5 ∷ field w 28 4 ∷ []) ≡ put (clear w 20 2) 23 1 1
-      home = simp (apart, five, ones, none) at (whole preloadLayout (put (clear w 20 2) 23 1 1) (raised-small true (clear w 20 2) cleared-small))
+      home = simp (apart, five, ones, none) at (whole preloadLayout (put (clear w 20 2) 23 1 1) (raised-small true (clear w 20 2) (clear-small w 20 2 bound)))
 
   some-leads : preloadSlot w ≡ true → (field w 24 4 ≡ 5) × (field w 12 4 ≡ 15) → eqb (field w 0 12) 0 ≡ false → Home
   some-leads slot (five, ones) some ok = (
@@ -92,12 +89,12 @@ module _ (w addr : ℕ) (bound : w < 2 ^ 32) (cond : field w 28 4 ≡ 15) (group
   )
     where
       home : join preloadLayout (field w 0 12 ∷ 15 ∷ field w 16 4 ∷ 0 ∷ field w 22 1 ∷ field w 23 1 ∷ 5 ∷ field w 28 4 ∷ []) ≡ clear w 20 2
-      home = simp (apart, five, ones) at (whole preloadLayout (clear w 20 2) cleared-small)
+      home = simp (apart, five, ones) at (whole preloadLayout (clear w 20 2) (clear-small w 20 2 bound))
 
-  pub preload-leads : Leads preloadWord 127 128 (raised (raisesOf w) (clear w 20 2)) (unconditionalOf w addr)
+  pub preload-leads : Leads preloadWord 125 128 (raised (raisesOf w) (clear w 20 2)) (unconditionalOf w addr)
   preload-leads =
-      split (preloadSlot w)
+      by-test (preloadSlot w)
       (λ slot.
       let fixed : (field w 24 4 ≡ 5) × (field w 12 4 ≡ 15) = slotted w (subst T (sym slot) tt) in
-      split (eqb (field w 0 12) 0) (λ e. none-leads slot fixed (eqb-true _ 0 e)) (λ e. some-leads slot fixed e))
+      by-test (eqb (field w 0 12) 0) (λ e. none-leads slot fixed (eqb-true _ 0 e)) (λ e. some-leads slot fixed e))
       (λ no ok. refusal (simp (group, no) at ok))

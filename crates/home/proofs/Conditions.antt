@@ -11,7 +11,7 @@ use lib.Dec.{T, eqb, leb, ltb, leb→le}
 use lib.ListN.{getD}
 use lib.Pow as P
 use lib.Pow.{pow-pos, pow-add}
-use Rattle.word.specs.Choice.{pick, both}
+use Rattle.word.specs.Choice.{pick, both, passes}
 use Rattle.word.specs.Every.{left, right}
 use Rattle.word.specs.Field.{field, put, clear, keeps-above, put-above, within}
 use Rattle.a32.specs.Decode.{controlOf}
@@ -89,11 +89,7 @@ low-at (fs ∷ rows) t zero = left (low fs) (all-low rows) t
 low-at (fs ∷ rows) t (suc n) = low-at rows (right (low fs) (all-low rows) t) n
 
 ended : (f : Ignored) (fs : List Ignored) → T (low (f ∷ fs)) → ends f ≡ true
-ended f fs t = from (ends f) (left (ends f) (low fs) t)
-  where
-    from : (b : Bool) → T b → b ≡ true
-    from true t = refl
-    from false t = absurd t
+ended f fs t = passes (ends f) (left (ends f) (low fs) t)
 
 clears-alike : (fs : List Ignored) → T (low fs) → (w v : ℕ) → Alike w v → Alike (clearAll fs w) (clearAll fs v)
 unfolding clear

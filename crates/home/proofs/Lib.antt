@@ -1,8 +1,8 @@
 -- Facts of the crate that belong to no one function.
 pub mod Leads
-pub mod Digits
 pub mod KeepsDp
 pub mod BackImm
+pub mod BackDp
 pub mod BackDpReg
 pub mod BackDpImm
 pub mod BackMisc

@@ -6,12 +6,11 @@ use Prim.Native.Nat.{ℕ, _+_, _≤_}
 use native.Mathlib.Nat.{le-trans, le-refl}
 use borrow.Author.Tests.{ltb-true}
 use lib.Dec.{T, leb, ltb}
-use Rattle.word.specs.Choice.{both}
+use Rattle.word.specs.Choice.{both, by-test, passes}
 use Rattle.word.specs.Every.{left, right, every, at-each}
 use Rattle.word.specs.Field.{field, clear, keeps-above, keeps-below, clear-le}
 use Rattle.home.specs.Table.{Ignored, ignored}
 use Rattle.home.specs.Home.{clearAll}
-use Rattle.home.proofs.Leads.{split, passes}
 
 either : Bool → Bool → Bool
 either true b = true
@@ -30,7 +29,7 @@ spared lo k (f ∷ fs) = both (beside lo k f) (spared lo k fs)
 one-spared : (lo k w : ℕ) (f : Ignored) → T (beside lo k f) → field (clear w (f .lo) (f .width)) lo k ≡ field w lo k
 unfolding beside either
 one-spared lo k w f t =
-    split (leb (f .lo + f .width) lo)
+    by-test (leb (f .lo + f .width) lo)
     (λ above. keeps-above w (f .lo) (f .width) lo k above)
     (λ e. keeps-below w (f .lo) (f .width) lo k (passes (leb (lo + k) (f .lo)) (subst (λ (b : Bool). T (either b (leb (lo + k) (f .lo)))) e t)))
 

@@ -8,6 +8,7 @@ use native.Mathlib.Nat.{lt-of-le-of-lt}
 use native.Mathlib.Omega.{arith}
 use borrow.Author.Tests.{eqb-true, eqb-false}
 use lib.Dec.{eqb, ltb}
+use Rattle.word.specs.Choice.{inside, by-test, parts}
 use Rattle.word.specs.Field.{field, clear, small, splits}
 use Rattle.insn.specs.declared.Decoded.{Decoded}
 use Rattle.insn.specs.declared.Insn.{Insn}
@@ -23,13 +24,13 @@ use Rattle.insn.specs.Answer.{accepted, refused}
 use Rattle.a32.specs.Decode.{decodeOf, controlOf, extraOf}
 use Rattle.home.specs.Table.{ignored}
 use Rattle.home.specs.Home.{clearAll, controlRow, dpRegRow, extraRow, dpImmRow, mediaRow, rowOf, raisesOf, raised, homeOf}
-use Rattle.home.specs.Parts.{place, isAddress}
+use Rattle.parts.specs.Parts.{at, isAddress}
 use Rattle.home.specs.Word.{wordOf}
 use Rattle.home.specs.WordMisc.{miscWord}
 use Rattle.home.proofs.BackBlock.{block-leads}
 use Rattle.home.proofs.BackBranch.{branch-leads, blx-leads}
 use Rattle.home.proofs.BackDpImm.{movw-leads, movt-leads, hint-leads, Msr, msr-low, msr-high, operation-leads}
-use Rattle.home.proofs.BackDpReg.{dp-reg-amount, dp-reg-register}
+use Rattle.home.proofs.BackDpReg.{dp-reg-leads}
 use Rattle.home.proofs.BackExtra.{extra-keeps, extra-leads}
 use Rattle.home.proofs.BackLdst.{ldst-keeps, ldst-leads}
 use Rattle.home.proofs.BackMedia.{media-keeps, media-leads}
@@ -37,13 +38,13 @@ use Rattle.home.proofs.BackMisc.{misc-keeps, misc-leads, misc-second}
 use Rattle.home.proofs.BackUnconditional.{preload-keeps, preload-leads}
 use Rattle.home.proofs.Homes as H
 use Rattle.home.proofs.KeepsDp.{dp-reg-keeps, dp-imm-keeps}
-use Rattle.home.proofs.Leads.{apart, Leads, inside, split, bit-cases, refusal, parts, raised-above, raised-below, raised-small}
+use Rattle.home.proofs.Leads.{apart, Leads, bit-cases, never, refusal, raised-above, raised-below, raised-small}
 use Rattle.home.proofs.Rows.{clearAll-le, keeps-cond, keeps-group, keeps-4, keeps-7, keeps-24-23, keeps-20}
 use Rattle.home.proofs.Ways as Ways
 
 -- an answer that leads back under a name of its group
 by-leads : {word : Insn → ℕ} (lo hi h : ℕ) (d : Decoded) → Leads word lo hi h d
-    → ((i : Insn) → isAddress (place i 0) ≡ false → inside lo hi (i .name) ≡ true → wordOf i ≡ word i)
+    → ((i : Insn) → isAddress (at i 0) ≡ false → inside lo hi (i .name) ≡ true → wordOf i ≡ word i)
     → d .refusal ≡ 0 → wordOf (d .insn) ≡ h
 by-leads lo hi h d leads named ok = named (d .insn) (leads ok .2) (leads ok .1) ∙ leads ok .0
 
@@ -62,12 +63,12 @@ module _ (w addr : ℕ) (bound : w < 2 ^ 32) where
   -- condition 15
   second : field w 28 4 ≡ 15 → Settled
   second c =
-      split (eqb (field w 25 3) 5)
+      by-test (eqb (field w 25 3) 5)
       (λ e. blx (eqb-true _ 5 e))
       (λ g.
       settle (raised (raisesOf w) (clear w 20 2)) (unconditionalOf w addr) (H.preload-home w c g) (Ways.to-unconditional w addr c)
       (Ways.to-unconditional (raised (raisesOf w) (clear w 20 2)) addr still ∙ preload-keeps w addr c g)
-      (by-leads 127 128 _ (unconditionalOf w addr) (preload-leads w addr bound c g) Ways.named-preload))
+      (by-leads 125 128 _ (unconditionalOf w addr) (preload-leads w addr bound c g) (λ i plain. Ways.named-preload i plain 128)))
     where
       still : field (raised (raisesOf w) (clear w 20 2)) 28 4 ≡ 15
       still = raised-above (raisesOf w) (clear w 20 2) 28 4 refl ∙ simp (apart, c)
@@ -142,21 +143,19 @@ module _ (w addr : ℕ) (bound : w < 2 ^ 32) where
 
       operation : controlOf w ≡ false → Settled
       operation is =
-          bit-cases w 4
-          (λ four.
-          settle (clearAll (ignored (dpRegRow w)) w) (dpRegOf w addr) (H.dp-amount-home w c g is four) (Ways.to-dp-amount w addr c g is four)
-          (Ways.to-dp-amount (clearAll (ignored (dpRegRow w)) w) addr (still-c (dpRegRow w) below) (still-g (dpRegRow w) below g) (still-control (dpRegRow w) (H.dp-reg-below w) is) (still-4 (dpRegRow w) below four) ∙ dp-reg-keeps w addr)
-          (by-leads 0 37 _ (dpRegOf w addr) (dp-reg-amount w addr bound g is four) Ways.named-dp))
-          (λ four.
           bit-cases w 7
-          (λ seven.
-          settle (clearAll (ignored (dpRegRow w)) w) (dpRegOf w addr) (H.dp-register-home w c g is four seven) (Ways.to-dp-register w addr c g is four seven)
-          (Ways.to-dp-register (clearAll (ignored (dpRegRow w)) w) addr (still-c (dpRegRow w) below) (still-g (dpRegRow w) below g) (still-control (dpRegRow w) (H.dp-reg-below w) is) (still-4 (dpRegRow w) below four) (still-7 (dpRegRow w) below seven) ∙ dp-reg-keeps w addr)
-          (by-leads 0 37 _ (dpRegOf w addr) (dp-reg-register w addr bound g is four seven) Ways.named-dp))
-          (λ seven. extra four seven))
+          (λ seven. register (λ four. seven))
+          (λ seven. bit-cases w 4 (λ four. register (λ set. never four set)) (λ four. extra four seven))
         where
           below : ltb (dpRegRow w) 17 ≡ true
           below = H.fewer (dpRegRow w) (H.dp-reg-below w)
+
+          register : (field w 4 1 ≡ 1 → field w 7 1 ≡ 0) → Settled
+          register seven =
+              settle (clearAll (ignored (dpRegRow w)) w) (dpRegOf w addr) (H.dp-home w c g is seven) (Ways.to-dp w addr c g is seven)
+              (Ways.to-dp (clearAll (ignored (dpRegRow w)) w) addr (still-c (dpRegRow w) below) (still-g (dpRegRow w) below g) (still-control (dpRegRow w) (H.dp-reg-below w) is)
+              (λ set. still-7 (dpRegRow w) below (seven (sym (keeps-4 (dpRegRow w) w below) ∙ set))) ∙ dp-reg-keeps w addr)
+              (by-leads 0 37 _ (dpRegOf w addr) (dp-reg-leads w addr bound g is seven) Ways.named-dp)
 
     immediate : field w 25 3 ≡ 1 → Settled
     immediate g =
@@ -169,14 +168,14 @@ module _ (w addr : ℕ) (bound : w < 2 ^ 32) where
 
         back : (dpImmOf w addr) .refusal ≡ 0 → wordOf ((dpImmOf w addr) .insn) ≡ clearAll (ignored (dpImmRow w)) w
         back =
-            split (eqb (field w 20 5) 16)
+            by-test (eqb (field w 20 5) 16)
             (λ e ok. by-leads 75 81 w (dpImmOf w addr) (movw-leads w addr bound g (eqb-true _ 16 e)) Ways.named-wide ok ∙ sym (H.movw-row w (eqb-true _ 16 e)))
             λ n16.
-            split (eqb (field w 20 5) 20)
+            by-test (eqb (field w 20 5) 20)
             (λ e ok. by-leads 75 81 w (dpImmOf w addr) (movt-leads w addr bound g (eqb-true _ 20 e)) Ways.named-wide ok ∙ sym (H.movt-row w (eqb-true _ 20 e)))
             λ n20.
-            split (eqb (field w 20 5) 18) (λ e. status (eqb-true _ 18 e)) λ n18.
-            split (eqb (field w 20 5) 22)
+            by-test (eqb (field w 20 5) 18) (λ e. status (eqb-true _ 18 e)) λ n18.
+            by-test (eqb (field w 20 5) 22)
             (λ e ok. msr (msr-high w addr bound g (eqb-true _ 22 e)) ∙ sym (H.msr-high-row w (eqb-true _ 22 e)))
             (λ n22. by-leads 0 37 _ (dpImmOf w addr) (operation-leads w addr bound g n16 n20 n18 n22) Ways.named-dp)
           where
@@ -185,7 +184,7 @@ module _ (w addr : ℕ) (bound : w < 2 ^ 32) where
 
             status : field w 20 5 ≡ 18 → (dpImmOf w addr) .refusal ≡ 0 → wordOf ((dpImmOf w addr) .insn) ≡ clearAll (ignored (dpImmRow w)) w
             status op =
-                split (hintSlot w)
+                by-test (hintSlot w)
                 (λ hint ok. by-leads 75 81 (clear w 8 4) (dpImmOf w addr) (hint-leads w addr bound g op hint) Ways.named-wide ok ∙ sym (H.hint-row w op hint))
                 (λ plain ok. msr (msr-low w addr bound g op plain) ∙ sym (H.msr-low-row w op plain))
 
@@ -207,7 +206,7 @@ module _ (w addr : ℕ) (bound : w < 2 ^ 32) where
 
     memory : field w 25 3 ≡ 2 → Settled
     memory g =
-        transfers (Ways.top w 2 1 g (omega arith) (omega arith)) (λ set. absurd (eqb-false 0 1 refl (sym clear-25 ∙ set))) (H.ldst-home w c g) (Ways.to-ldst w addr c g)
+        transfers (Ways.top w 2 1 g (omega arith) (omega arith)) (λ set. never clear-25 set) (H.ldst-home w c g) (Ways.to-ldst w addr c g)
         (Ways.to-ldst (raised (raisesOf w) w) addr raised-c (raised-g g))
       where
         clear-25 : field w 25 1 ≡ 0
@@ -243,12 +242,12 @@ module _ (w addr : ℕ) (bound : w < 2 ^ 32) where
 
     first : Settled
     first =
-        split (eqb (field w 25 3) 0) (λ e. split (controlOf w) (control (eqb-true _ 0 e)) (operation (eqb-true _ 0 e))) λ n0.
-        split (eqb (field w 25 3) 1) (λ e. immediate (eqb-true _ 1 e)) λ n1.
-        split (eqb (field w 25 3) 2) (λ e. memory (eqb-true _ 2 e)) λ n2.
-        split (eqb (field w 25 3) 3) (λ e. indexed (eqb-true _ 3 e)) λ n3.
-        split (eqb (field w 25 3) 4) (λ e. multiple (eqb-true _ 4 e)) λ n4.
-        split (eqb (field w 25 3) 5) (λ e. branches (eqb-true _ 5 e)) λ n5.
+        by-test (eqb (field w 25 3) 0) (λ e. by-test (controlOf w) (control (eqb-true _ 0 e)) (operation (eqb-true _ 0 e))) λ n0.
+        by-test (eqb (field w 25 3) 1) (λ e. immediate (eqb-true _ 1 e)) λ n1.
+        by-test (eqb (field w 25 3) 2) (λ e. memory (eqb-true _ 2 e)) λ n2.
+        by-test (eqb (field w 25 3) 3) (λ e. indexed (eqb-true _ 3 e)) λ n3.
+        by-test (eqb (field w 25 3) 4) (λ e. multiple (eqb-true _ 4 e)) λ n4.
+        by-test (eqb (field w 25 3) 5) (λ e. branches (eqb-true _ 5 e)) λ n5.
         coprocessor (above (eqb-false _ 0 n0) (eqb-false _ 1 n1) (eqb-false _ 2 n2) (eqb-false _ 3 n3) (eqb-false _ 4 n4) (eqb-false _ 5 n5))
       where
         above : (field w 25 3 ≡ 0 → ⊥) → (field w 25 3 ≡ 1 → ⊥) → (field w 25 3 ≡ 2 → ⊥) → (field w 25 3 ≡ 3 → ⊥) → (field w 25 3 ≡ 4 → ⊥)
@@ -256,7 +255,7 @@ module _ (w addr : ℕ) (bound : w < 2 ^ 32) where
         above n0 n1 n2 n3 n4 n5 = omega (arith, splits w 25 2 1, small w 25 1, small w 25 3)
 
   settled : Settled
-  settled = split (eqb (field w 28 4) 15) (λ e. second (eqb-true _ 15 e)) first
+  settled = by-test (eqb (field w 28 4) 15) (λ e. second (eqb-true _ 15 e)) first
 
 -- the home word of a word has the word's answer
 pub home-decodes : (w addr : ℕ) → w < 2 ^ 32 → decodeOf (homeOf w) addr ≡ decodeOf w addr

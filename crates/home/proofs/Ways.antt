@@ -3,8 +3,9 @@ use mathlib.Core.Path.{_≡_, _∙_}
 use mathlib.Core.Bool.{true, false}
 use Prim.Native.Nat.{ℕ, _+_, _*_, _<_, _≤_}
 use native.Mathlib.Omega.{arith}
-use borrow.Author.Tests.{leb-true, ltb-true, lt-leb}
+use borrow.Author.Tests.{leb-true, ltb-true, le-leb, lt-leb}
 use lib.Dec.{eqb, leb, ltb}
+use Rattle.word.specs.Choice.{pick, inside, parts, fails}
 use Rattle.word.specs.Field.{field, small, splits}
 use Rattle.insn.specs.Answer.{refused}
 use Rattle.insn.specs.Name.{MSR, BLX}
@@ -18,7 +19,7 @@ use Rattle.transfer.specs.Block.{blockOf}
 use Rattle.transfer.specs.Branch.{branchOf}
 use Rattle.transfer.specs.Unconditional.{unconditionalOf}
 use Rattle.a32.specs.Decode.{decodeOf, groupOf, dpMiscOf, plainOf, extraOf, controlOf}
-use Rattle.home.specs.Parts.{place, isAddress, isCount}
+use Rattle.parts.specs.Parts.{at, isAddress, isCount}
 use Rattle.home.specs.Word.{wordOf, statusWord}
 use Rattle.home.specs.WordDp.{dpWord, wideWord, msrImmediateWord}
 use Rattle.home.specs.WordMisc.{miscWord}
@@ -26,7 +27,7 @@ use Rattle.home.specs.WordExtra.{extraWord}
 use Rattle.home.specs.WordLdst.{ldstWord}
 use Rattle.home.specs.WordMedia.{mediaWord}
 use Rattle.home.specs.WordTransfer.{blockWord, branchWord, blxWord, preloadWord}
-use Rattle.home.proofs.Leads.{inside, bit-cases, parts, fails}
+use Rattle.home.proofs.Leads.{bit-cases}
 
 -- 27:26 from 27:25
 pub top : (w g h : ℕ) → field w 25 3 ≡ g → h * 2 ≤ g → g < h * 2 + 2 → field w 26 2 ≡ h
@@ -55,13 +56,12 @@ module _ (w addr : ℕ) where
           (λ four. simp (c, top w 0 0 g (omega arith) (omega arith), g, control, four, seven))
           (λ four. simp (c, top w 0 0 g (omega arith) (omega arith), g, control, four, seven))
 
-      pub to-dp-amount : controlOf w ≡ false → field w 4 1 ≡ 0 → decodeOf w addr ≡ dpRegOf w addr
+      pub to-dp : controlOf w ≡ false → (field w 4 1 ≡ 1 → field w 7 1 ≡ 0) → decodeOf w addr ≡ dpRegOf w addr
       unfolding decodeOf groupOf dpMiscOf plainOf
-      to-dp-amount control four = simp (c, top w 0 0 g (omega arith) (omega arith), g, control, four)
-
-      pub to-dp-register : controlOf w ≡ false → field w 4 1 ≡ 1 → field w 7 1 ≡ 0 → decodeOf w addr ≡ dpRegOf w addr
-      unfolding decodeOf groupOf dpMiscOf plainOf
-      to-dp-register control four seven = simp (c, top w 0 0 g (omega arith) (omega arith), g, control, four, seven)
+      to-dp control seven =
+          bit-cases w 4
+          (λ four. simp (c, top w 0 0 g (omega arith) (omega arith), g, control, four))
+          (λ four. simp (c, top w 0 0 g (omega arith) (omega arith), g, control, four, seven four))
 
       pub to-extra : field w 4 1 ≡ 1 → field w 7 1 ≡ 1 → decodeOf w addr ≡ extraOf w addr
       unfolding decodeOf groupOf dpMiscOf
@@ -91,59 +91,68 @@ module _ (w addr : ℕ) where
     unfolding decodeOf groupOf
     to-branch g = simp (c, top w 5 2 g (omega arith) (omega arith), g)
 
--- a name between two numbers, against another
-beyond : (lo hi n : ℕ) → inside lo hi n ≡ true → (k : ℕ) → ltb k lo ≡ true → leb n k ≡ false
-beyond lo hi n is k less = lt-leb n k (omega (arith, ltb-true k lo less, leb-true lo n (parts (leb lo n) (leb n hi) is .0)))
+-- a name from a number on, and up to one, against another
+beyond : (lo n : ℕ) → leb lo n ≡ true → (k : ℕ) → ltb k lo ≡ true → leb n k ≡ false
+beyond lo n is k less = lt-leb n k (omega (arith, ltb-true k lo less, leb-true lo n is))
 
-within : (lo hi n : ℕ) → inside lo hi n ≡ true → leb n hi ≡ true
-within lo hi n is = parts (leb lo n) (leb n hi) is .1
+pub between : (lo hi n : ℕ) → lo ≤ n → n ≤ hi → inside lo hi n ≡ true
+between lo hi n low high = simp (le-leb lo n low, le-leb n hi high)
 
 -- the groups of a name
-module _ (i : Insn) (plain : isAddress (place i 0) ≡ false) where
+module _ (i : Insn) (plain : isAddress (at i 0) ≡ false) where
+  module _ (lo hi : ℕ) (is : inside lo hi (i .name) ≡ true) where
+    after : (k : ℕ) → ltb k lo ≡ true → leb (i .name) k ≡ false
+    after = beyond lo (i .name) (parts (leb lo (i .name)) (leb (i .name) hi) is .0)
+
+    within : leb (i .name) hi ≡ true
+    within = parts (leb lo (i .name)) (leb (i .name) hi) is .1
+
   pub named-dp : inside 0 37 (i .name) ≡ true → wordOf i ≡ dpWord i
   unfolding wordOf
-  named-dp is = simp (plain, within 0 37 (i .name) is)
+  named-dp is = simp (plain, within 0 37 is)
 
   pub named-status : inside 38 48 (i .name) ≡ true → wordOf i ≡ statusWord i
   unfolding wordOf
-  named-status is = simp (plain, beyond 38 48 (i .name) is, within 38 48 (i .name) is)
+  named-status is = simp (plain, after 38 48 is, within 38 48 is)
 
   pub named-extra : inside 49 74 (i .name) ≡ true → wordOf i ≡ extraWord i
   unfolding wordOf
-  named-extra is = simp (plain, beyond 49 74 (i .name) is, within 49 74 (i .name) is)
+  named-extra is = simp (plain, after 49 74 is, within 49 74 is)
 
   pub named-wide : inside 75 81 (i .name) ≡ true → wordOf i ≡ wideWord i
   unfolding wordOf
-  named-wide is = simp (plain, beyond 75 81 (i .name) is, within 75 81 (i .name) is)
+  named-wide is = simp (plain, after 75 81 is, within 75 81 is)
 
   pub named-ldst : inside 82 89 (i .name) ≡ true → wordOf i ≡ ldstWord i
   unfolding wordOf
-  named-ldst is = simp (plain, beyond 82 89 (i .name) is, within 82 89 (i .name) is)
+  named-ldst is = simp (plain, after 82 89 is, within 82 89 is)
 
   pub named-media : inside 90 114 (i .name) ≡ true → wordOf i ≡ mediaWord i
   unfolding wordOf
-  named-media is = simp (plain, beyond 90 114 (i .name) is, within 90 114 (i .name) is)
+  named-media is = simp (plain, after 90 114 is, within 90 114 is)
 
   pub named-block : inside 115 124 (i .name) ≡ true → wordOf i ≡ blockWord i
   unfolding wordOf
-  named-block is = simp (plain, beyond 115 124 (i .name) is, within 115 124 (i .name) is)
+  named-block is = simp (plain, after 115 124 is, within 115 124 is)
 
-  pub named-preload : inside 127 128 (i .name) ≡ true → wordOf i ≡ preloadWord i
+  pub named-preload : (hi : ℕ) → inside 125 hi (i .name) ≡ true → wordOf i ≡ preloadWord i
   unfolding wordOf
-  named-preload is = simp (plain, beyond 127 128 (i .name) is)
+  named-preload hi is = simp (plain, after 125 hi is)
 
-module _ (i : Insn) (goes : isAddress (place i 0) ≡ true) where
+module _ (i : Insn) (goes : isAddress (at i 0) ≡ true) where
+  pub named-address : wordOf i ≡ pick (eqb (i .name) BLX) (blxWord i) (branchWord i)
+  unfolding wordOf
+  named-address = simp goes
+
   pub named-blx : i .name ≡ BLX → wordOf i ≡ blxWord i
-  unfolding wordOf
-  named-blx is = simp (goes, is)
+  named-blx is = named-address ∙ simp is
 
   pub named-branch : eqb (i .name) BLX ≡ false → wordOf i ≡ branchWord i
-  unfolding wordOf
-  named-branch is = simp (goes, is)
+  named-branch is = named-address ∙ simp is
 
 -- msr: of a register, or of an immediate
-pub named-misc : (i : Insn) → isAddress (place i 0) ≡ false → inside 38 48 (i .name) ≡ true → isCount (place i 1) ≡ false → wordOf i ≡ miscWord i
+pub named-misc : (i : Insn) → isAddress (at i 0) ≡ false → inside 38 48 (i .name) ≡ true → isCount (at i 1) ≡ false → wordOf i ≡ miscWord i
 named-misc i plain is register = named-status i plain is ∙ simp (register, fails)
 
-pub named-msr : (i : Insn) → isAddress (place i 0) ≡ false → i .name ≡ MSR → isCount (place i 1) ≡ true → wordOf i ≡ msrImmediateWord i
+pub named-msr : (i : Insn) → isAddress (at i 0) ≡ false → i .name ≡ MSR → isCount (at i 1) ≡ true → wordOf i ≡ msrImmediateWord i
 named-msr i plain is immediate = named-status i plain (simp is) ∙ simp (is, immediate)

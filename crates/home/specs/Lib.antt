@@ -1,6 +1,5 @@
 pub mod Table
 pub mod Home
-pub mod Parts
 pub mod WordDp
 pub mod WordMisc
 pub mod WordMultiply

@@ -5,7 +5,7 @@ use lib.Dec.{eqb, leb}
 use Rattle.word.specs.Choice.{pick, both}
 use Rattle.insn.specs.Name.{RRX, BKPT, LDRSH, SEV, STRBT, UXTAH, PUSH, MSR, BLX}
 use Rattle.insn.specs.declared.Insn.{Insn}
-use Rattle.home.specs.Parts.{place, isAddress, isCount}
+use Rattle.parts.specs.Parts.{at, isAddress, isCount}
 use Rattle.home.specs.WordDp.{dpWord, wideWord, msrImmediateWord}
 use Rattle.home.specs.WordMisc.{miscWord}
 use Rattle.home.specs.WordExtra.{extraWord}
@@ -15,12 +15,12 @@ use Rattle.home.specs.WordTransfer.{blockWord, branchWord, blxWord, prel
 
 -- msr has one form in two groups
 abbrev pub statusWord : Insn → ℕ
-statusWord i = pick (both (eqb (i .name) MSR) (isCount (place i 1))) (msrImmediateWord i) (miscWord i)
+statusWord i = pick (both (eqb (i .name) MSR) (isCount (at i 1))) (msrImmediateWord i) (miscWord i)
 
 -- by the last name of each group, in the order of the numbers
 unfoldable pub wordOf : Insn → ℕ
 wordOf i =
-    pick (isAddress (place i 0)) (pick (eqb (i .name) BLX) (blxWord i) (branchWord i))
+    pick (isAddress (at i 0)) (pick (eqb (i .name) BLX) (blxWord i) (branchWord i))
     (pick (leb (i .name) RRX) (dpWord i)
     (pick (leb (i .name) BKPT) (statusWord i)
     (pick (leb (i .name) LDRSH) (extraWord i)

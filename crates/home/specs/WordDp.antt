@@ -11,8 +11,8 @@ use Rattle.insn.specs.Name.{MOVW, NOP, RRXS, LSL, LSLS}
 use Rattle.insn.specs.declared.Flow.{Flow}
 use Rattle.insn.specs.declared.Flow.the-variants.{Next, Branch, CondBranch, IndirectBranch, Call, IndirectCall, Return, Trap}
 use Rattle.insn.specs.declared.Insn.{Insn}
-use Rattle.insn.specs.declared.Operand.{Operand}
-use Rattle.home.specs.Parts.{place, register, kind, amount, number, isCount, isRegister, isShiftBy}
+use Rattle.parts.specs.declared.Flat.{Flat}
+use Rattle.parts.specs.Parts.{at, number, isCount, isRegister, isShiftBy}
 
 -- 24:21 and 20 of the names and .. mvns; compares set the flags
 abbrev pub operation : ℕ → ℕ
@@ -21,17 +21,18 @@ operation n = pick (ltb n 16) n (getD (0 ∷ 1 ∷ 2 ∷ 3 ∷ 4 ∷ 5 ∷ 6 ∷
 abbrev pub setting : ℕ → ℕ
 setting n = pick (ltb n 8) 0 (pick (ltb n 12) 1 (pick (ltb n 16) 0 1))
 
--- rm 0 ty imm5 rd rn s op 000 cond, from bit 0 up
-abbrev pub byAmount : List ℕ
-byAmount = 4 ∷ 1 ∷ 2 ∷ 5 ∷ 4 ∷ 4 ∷ 1 ∷ 4 ∷ 3 ∷ 4 ∷ []
+-- 11:0 of a register that is shifted by an amount, rm 0 ty imm5, or by a register, rm 1 ty 0 rs, from bit 0 up
+abbrev pub amountLayout : List ℕ
+amountLayout = 4 ∷ 1 ∷ 2 ∷ 5 ∷ []
 
--- rm 1 ty 0 rs rd rn s op 000 cond
-abbrev pub byRegister : List ℕ
-byRegister = 4 ∷ 1 ∷ 2 ∷ 1 ∷ 4 ∷ 4 ∷ 4 ∷ 1 ∷ 4 ∷ 3 ∷ 4 ∷ []
+abbrev pub byAmount : ℕ → ℕ → ℕ → ℕ
+byAmount rm ty n = join amountLayout (rm ∷ 0 ∷ ty ∷ n ∷ [])
 
--- imm12 rd rn s op 001 cond
-abbrev pub byImmediate : List ℕ
-byImmediate = 12 ∷ 4 ∷ 4 ∷ 1 ∷ 4 ∷ 3 ∷ 4 ∷ []
+abbrev pub registerLayout : List ℕ
+registerLayout = 4 ∷ 1 ∷ 2 ∷ 1 ∷ 4 ∷ []
+
+abbrev pub byRegister : ℕ → ℕ → ℕ → ℕ
+byRegister rm ty rs = join registerLayout (rm ∷ 1 ∷ ty ∷ 0 ∷ rs ∷ [])
 
 -- the field with the least rotation below r, else at r, that gives v
 abbrev pub leastFrom : ℕ → ℕ → ℕ → ℕ
@@ -39,17 +40,29 @@ leastFrom zero r v = 0
 leastFrom (suc n) r v = pick (ltb (turnedLeft v (2 * r)) 256) (256 * r + turnedLeft v (2 * r)) (leastFrom n (suc r) v)
 
 -- the immediate of one count or two
-abbrev pub imm12 : Operand → Operand → ℕ
+unfoldable pub imm12 : Flat → Flat → ℕ
 imm12 value turn = pick (isCount turn) (256 * (number turn / 2) + number value) (leastFrom 16 0 (number value))
 
--- a word of rd, rn, operation and S, with a source that takes one operand or two
-abbrev pub sourced : Insn → ℕ → ℕ → ℕ → ℕ → Operand → Operand → ℕ
-sourced i rd rn op s source by =
-    pick (isCount source)
-    (join byImmediate (imm12 source by ∷ rd ∷ rn ∷ s ∷ op ∷ 1 ∷ i .cond .0 ∷ []))
+-- 11:0 of a source that takes one operand or two, and whether it is an immediate
+unfoldable pub source12 : Flat → Flat → ℕ
+source12 source by =
+    pick (isCount source) (imm12 source by)
     (pick (isShiftBy by)
-    (join byRegister (register source ∷ 1 ∷ kind by ∷ 0 ∷ register by ∷ rd ∷ rn ∷ s ∷ op ∷ 0 ∷ i .cond .0 ∷ []))
-    (join byAmount (register source ∷ 0 ∷ kind source ∷ amount source % 32 ∷ rd ∷ rn ∷ s ∷ op ∷ 0 ∷ i .cond .0 ∷ [])))
+    (byRegister (source .reg) (by .how) (by .reg))
+    (byAmount (source .reg) (source .how) (source .amount % 32)))
+
+abbrev pub immediate : Flat → ℕ
+immediate source = pick (isCount source) 1 0
+
+-- 11:0 rd rn s op 00i cond, from bit 0 up
+abbrev pub layout : List ℕ
+layout = 12 ∷ 4 ∷ 4 ∷ 1 ∷ 4 ∷ 3 ∷ 4 ∷ []
+
+abbrev pub laid : Insn → ℕ → ℕ → ℕ → ℕ → ℕ → ℕ → ℕ
+laid i low rd rn s op imm = join layout (low ∷ rd ∷ rn ∷ s ∷ op ∷ imm ∷ i .cond .0 ∷ [])
+
+abbrev pub sourced : Insn → ℕ → ℕ → ℕ → ℕ → Flat → Flat → ℕ
+sourced i rd rn op s source by = laid i (source12 source by) rd rn s op (immediate source)
 
 abbrev pub isIndirect : Flow → Bool
 isIndirect Next = false
@@ -65,19 +78,20 @@ isIndirect Trap = false
 abbrev pub operationWord : Insn → ℕ → ℕ → ℕ
 operationWord i op s =
     pick (both (leb 8 op) (leb op 11))
-    (sourced i (pick (isIndirect (i .flow)) 15 0) (register (place i 0)) op s (place i 1) (place i 2))
+    (sourced i (pick (isIndirect (i .flow)) 15 0) (at i 0 .reg) op s (at i 1) (at i 2))
     (pick (eqb op 13)
-    (sourced i (register (place i 0)) 0 op s (place i 1) (place i 2))
+    (sourced i (at i 0 .reg) 0 op s (at i 1) (at i 2))
     (pick (eqb op 15)
-    (sourced i (register (place i 0)) 0 op s (place i 1) (place i 2))
-    (sourced i (register (place i 0)) (register (place i 1)) op s (place i 2) (place i 3))))
+    (sourced i (at i 0 .reg) 0 op s (at i 1) (at i 2))
+    (sourced i (at i 0 .reg) (at i 1 .reg) op s (at i 2) (at i 3))))
 
--- a shift's name: mov of Rm shifted by a count, by a register, or through the carry
+-- 11:0 of Rm shifted by a count, by a register, or through the carry
+unfoldable pub shift12 : ℕ → ℕ → Flat → ℕ
+shift12 rm ty by = pick (isRegister by) (byRegister rm ty (by .reg)) (byAmount rm ty (number by % 32))
+
+-- a shift's name is a mov
 abbrev pub shiftWord : Insn → ℕ → ℕ → ℕ
-shiftWord i ty s =
-    pick (isRegister (place i 2))
-    (join byRegister (register (place i 1) ∷ 1 ∷ ty ∷ 0 ∷ register (place i 2) ∷ register (place i 0) ∷ 0 ∷ s ∷ 13 ∷ 0 ∷ i .cond .0 ∷ []))
-    (join byAmount (register (place i 1) ∷ 0 ∷ ty ∷ number (place i 2) % 32 ∷ register (place i 0) ∷ 0 ∷ s ∷ 13 ∷ 0 ∷ i .cond .0 ∷ []))
+shiftWord i ty s = laid i (shift12 (at i 1 .reg) ty (at i 2)) (at i 0 .reg) 0 s 13 0
 
 -- and .. mvns, lsl .. ror, lsls .. rors, rrxs, rrx
 abbrev pub dpWord : Insn → ℕ
@@ -99,7 +113,7 @@ hintLayout = 8 ∷ 4 ∷ 4 ∷ 4 ∷ 5 ∷ 3 ∷ 4 ∷ []
 abbrev pub wideWord : Insn → ℕ
 wideWord i =
     pick (ltb (i .name) NOP)
-    (join wideLayout (number (place i 1) % 4096 ∷ register (place i 0) ∷ number (place i 1) / 4096 ∷ pick (eqb (i .name) MOVW) 16 20 ∷ 1 ∷ i .cond .0 ∷ []))
+    (join wideLayout (number (at i 1) % 4096 ∷ at i 0 .reg ∷ number (at i 1) / 4096 ∷ pick (eqb (i .name) MOVW) 16 20 ∷ 1 ∷ i .cond .0 ∷ []))
     (join hintLayout ((i .name - NOP) ∷ 0 ∷ 15 ∷ 0 ∷ 18 ∷ 1 ∷ i .cond .0 ∷ []))
 
 -- imm12 rd mask 10 r 10 001 cond
@@ -108,4 +122,4 @@ msrLayout = 12 ∷ 4 ∷ 4 ∷ 2 ∷ 1 ∷ 2 ∷ 3 ∷ 4 ∷ []
 
 abbrev pub msrImmediateWord : Insn → ℕ
 msrImmediateWord i =
-    join msrLayout (imm12 (place i 1) (place i 2) ∷ 0 ∷ number (place i 0) % 16 ∷ 2 ∷ number (place i 0) / 16 ∷ 2 ∷ 1 ∷ i .cond .0 ∷ [])
+    join msrLayout (imm12 (at i 1) (at i 2) ∷ 0 ∷ at i 0 .amount % 16 ∷ 2 ∷ at i 0 .amount / 16 ∷ 2 ∷ 1 ∷ i .cond .0 ∷ [])

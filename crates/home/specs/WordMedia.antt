@@ -1,12 +1,12 @@
 -- The word of a media instruction, from its answer.
 use mathlib.Core.List.{List, [], _∷_}
-use Prim.Native.Nat.{ℕ, _+_, _-_, _/_, _%_}
+use Prim.Native.Nat.{ℕ, _+_, _-_, _*_, _/_, _%_}
 use lib.Dec.{eqb}
 use Rattle.word.specs.Choice.{pick}
 use Rattle.word.specs.Layout.{join}
 use Rattle.insn.specs.Name.{UDF, SBFX, UBFX, BFC, BFI, SDIV, UDIV, SSAT, USAT, REV, REV16, RBIT, REVSH, SXTB16, SXTAB16, SXTB, SXTAB, SXTH, SXTAH, UXTB16, UXTAB16, UXTB, UXTAB, UXTH}
 use Rattle.insn.specs.declared.Insn.{Insn}
-use Rattle.home.specs.Parts.{place, register, kind, amount, number}
+use Rattle.parts.specs.Parts.{at, number}
 
 -- from bit 0 up, in each layout: cond 011 op on top, and bit 4 set
 
@@ -15,33 +15,50 @@ abbrev pub udfLayout : List ℕ
 udfLayout = 4 ∷ 1 ∷ 3 ∷ 12 ∷ 5 ∷ 3 ∷ 4 ∷ []
 
 abbrev pub udfWord : Insn → ℕ
-udfWord i = join udfLayout (number (place i 0) % 16 ∷ 1 ∷ 7 ∷ number (place i 0) / 16 ∷ 31 ∷ 3 ∷ i .cond .0 ∷ [])
+udfWord i = join udfLayout (number (at i 0) % 16 ∷ 1 ∷ 7 ∷ number (at i 0) / 16 ∷ 31 ∷ 3 ∷ i .cond .0 ∷ [])
 
 -- rm 1 6:5 lsb rd 20:16 24:21 011 cond
 abbrev pub bitsLayout : List ℕ
 bitsLayout = 4 ∷ 1 ∷ 2 ∷ 5 ∷ 4 ∷ 5 ∷ 4 ∷ 3 ∷ 4 ∷ []
 
+abbrev pub bitsLaid : Insn → ℕ → ℕ → ℕ → ℕ → ℕ → ℕ
+bitsLaid i op low rm lsb rest = join bitsLayout (rm ∷ 1 ∷ low ∷ lsb ∷ at i 0 .reg ∷ rest ∷ op ∷ 3 ∷ i .cond .0 ∷ [])
+
 abbrev pub bfxWord : ℕ → Insn → ℕ
-bfxWord op i =
-    join bitsLayout (register (place i 1) ∷ 1 ∷ 2 ∷ number (place i 2) ∷ register (place i 0) ∷ (number (place i 3) - 1) ∷ op ∷ 3 ∷ i .cond .0 ∷ [])
+bfxWord op i = bitsLaid i op 2 (at i 1 .reg) (number (at i 2)) (number (at i 3) - 1)
 
 -- 20:16 is the last bit that is written
 abbrev pub bfLaid : Insn → ℕ → ℕ → ℕ → ℕ
-bfLaid i rm lsb width = join bitsLayout (rm ∷ 1 ∷ 0 ∷ lsb ∷ register (place i 0) ∷ (lsb + width - 1) ∷ 14 ∷ 3 ∷ i .cond .0 ∷ [])
+bfLaid i rm lsb width = bitsLaid i 14 0 rm lsb (lsb + width - 1)
 
 abbrev pub bfcWord : Insn → ℕ
-bfcWord i = bfLaid i 15 (number (place i 1)) (number (place i 2))
+bfcWord i = bfLaid i 15 (number (at i 1)) (number (at i 2))
 
 abbrev pub bfiWord : Insn → ℕ
-bfiWord i = bfLaid i (register (place i 1)) (number (place i 2)) (number (place i 3))
+bfiWord i = bfLaid i (at i 1 .reg) (number (at i 2)) (number (at i 3))
 
--- rm 1 7:5 rs 15:12 rd op 011 cond
-abbrev pub divLayout : List ℕ
-divLayout = 4 ∷ 1 ∷ 3 ∷ 4 ∷ 4 ∷ 4 ∷ 5 ∷ 3 ∷ 4 ∷ []
+-- rm 1 7:5 11:8 15:12 19:16 op 011 cond
+abbrev pub layout : List ℕ
+layout = 4 ∷ 1 ∷ 3 ∷ 4 ∷ 4 ∷ 4 ∷ 5 ∷ 3 ∷ 4 ∷ []
+
+abbrev pub laid : Insn → ℕ → ℕ → ℕ → ℕ → ℕ → ℕ → ℕ
+laid i op low rm rs rd rn = join layout (rm ∷ 1 ∷ low ∷ rs ∷ rd ∷ rn ∷ op ∷ 3 ∷ i .cond .0 ∷ [])
 
 abbrev pub divWord : ℕ → Insn → ℕ
-divWord op i =
-    join divLayout (register (place i 1) ∷ 1 ∷ 0 ∷ register (place i 2) ∷ 0 ∷ register (place i 0) ∷ op ∷ 3 ∷ i .cond .0 ∷ [])
+divWord op i = laid i op 0 (at i 1 .reg) (at i 2 .reg) 0 (at i 0 .reg)
+
+abbrev pub revWord : ℕ → ℕ → Insn → ℕ
+revWord op low i = laid i op low (at i 1 .reg) 15 (at i 0 .reg) 15
+
+-- 11:10 is the rotate
+abbrev pub extendLaid : Insn → ℕ → ℕ → ℕ → ℕ → ℕ
+extendLaid i op rm rotate rn = laid i op 3 rm (rotate / 8 * 4) (at i 0 .reg) rn
+
+abbrev pub extendWord : ℕ → Insn → ℕ
+extendWord op i = extendLaid i op (at i 1 .reg) (at i 2 .amount) 15
+
+abbrev pub addExtendWord : ℕ → Insn → ℕ
+addExtendWord op i = extendLaid i op (at i 2 .reg) (at i 3 .amount) (at i 1 .reg)
 
 -- rm 5:4 asr amount rd number 0 24:21 011 cond
 abbrev pub satLayout : List ℕ
@@ -50,35 +67,13 @@ satLayout = 4 ∷ 2 ∷ 1 ∷ 5 ∷ 4 ∷ 4 ∷ 1 ∷ 4 ∷ 3 ∷ 4 ∷ []
 -- asr by 32 is written 0
 abbrev pub satLaid : ℕ → ℕ → Insn → ℕ
 satLaid op n i =
-    join satLayout (register (place i 2) ∷ 1 ∷ kind (place i 3) / 2 ∷ amount (place i 3) % 32 ∷ register (place i 0) ∷ n ∷ 0 ∷ op ∷ 3 ∷ i .cond .0 ∷ [])
+    join satLayout (at i 2 .reg ∷ 1 ∷ at i 3 .how / 2 ∷ at i 3 .amount % 32 ∷ at i 0 .reg ∷ n ∷ 0 ∷ op ∷ 3 ∷ i .cond .0 ∷ [])
 
 abbrev pub ssatWord : Insn → ℕ
-ssatWord i = satLaid 5 (number (place i 1) - 1) i
+ssatWord i = satLaid 5 (number (at i 1) - 1) i
 
 abbrev pub usatWord : Insn → ℕ
-usatWord i = satLaid 7 (number (place i 1)) i
-
--- rm 1 7:5 11:8 rd rn op 011 cond
-abbrev pub revLayout : List ℕ
-revLayout = 4 ∷ 1 ∷ 3 ∷ 4 ∷ 4 ∷ 4 ∷ 5 ∷ 3 ∷ 4 ∷ []
-
-abbrev pub revWord : ℕ → ℕ → Insn → ℕ
-revWord op low i =
-    join revLayout (register (place i 1) ∷ 1 ∷ low ∷ 15 ∷ register (place i 0) ∷ 15 ∷ op ∷ 3 ∷ i .cond .0 ∷ [])
-
--- rm 1 7:5 00 rotate rd rn op 011 cond
-abbrev pub extendLayout : List ℕ
-extendLayout = 4 ∷ 1 ∷ 3 ∷ 2 ∷ 2 ∷ 4 ∷ 4 ∷ 5 ∷ 3 ∷ 4 ∷ []
-
-abbrev pub extendLaid : Insn → ℕ → ℕ → ℕ → ℕ → ℕ
-extendLaid i op rm rotate rn =
-    join extendLayout (rm ∷ 1 ∷ 3 ∷ 0 ∷ rotate / 8 ∷ register (place i 0) ∷ rn ∷ op ∷ 3 ∷ i .cond .0 ∷ [])
-
-abbrev pub extendWord : ℕ → Insn → ℕ
-extendWord op i = extendLaid i op (register (place i 1)) (amount (place i 2)) 15
-
-abbrev pub addExtendWord : ℕ → Insn → ℕ
-addExtendWord op i = extendLaid i op (register (place i 2)) (amount (place i 3)) (register (place i 1))
+usatWord i = satLaid 7 (number (at i 1)) i
 
 -- how a name's words are laid
 unfoldable pub laidAs : ℕ → Insn → ℕ

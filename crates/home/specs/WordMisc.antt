@@ -6,7 +6,7 @@ use Rattle.word.specs.Choice.{pick}
 use Rattle.word.specs.Layout.{join}
 use Rattle.insn.specs.Name.{MRS, MSR, BX, CLZ, BXJ, BLX, QADD, QSUB, QDADD, BKPT}
 use Rattle.insn.specs.declared.Insn.{Insn}
-use Rattle.home.specs.Parts.{place, register, number}
+use Rattle.parts.specs.Parts.{at, number}
 
 -- rm 000 0 0 0 00 rd mask 0 m r 10 000 cond, from bit 0 up
 abbrev pub status-layout : List ℕ
@@ -30,21 +30,21 @@ several-layout = 4 ∷ 3 ∷ 1 ∷ 4 ∷ 4 ∷ 4 ∷ 1 ∷ 2 ∷ 2 ∷ 3 ∷ 4 �
 -- with Rd and Rm at places 0 and 1
 abbrev pub several : Insn → ℕ → ℕ → ℕ → ℕ
 several i kind rn op =
-    join several-layout (register (place i 1) ∷ kind ∷ 0 ∷ 0 ∷ register (place i 0) ∷ rn ∷ 0 ∷ op ∷ 2 ∷ 0 ∷ i .cond .0 ∷ [])
+    join several-layout (at i 1 .reg ∷ kind ∷ 0 ∷ 0 ∷ at i 0 .reg ∷ rn ∷ 0 ∷ op ∷ 2 ∷ 0 ∷ i .cond .0 ∷ [])
 
 abbrev pub saturating : Insn → ℕ → ℕ
-saturating i op = several i 5 (register (place i 2)) op
+saturating i op = several i 5 (at i 2 .reg) op
 
 abbrev pub miscWord : Insn → ℕ
 miscWord i =
-    pick (eqb (i .name) MRS) (status i 0 (register (place i 0)) 0 0 (number (place i 1)))
-    (pick (eqb (i .name) MSR) (status i (register (place i 1)) 0 (number (place i 0) % 16) 1 (number (place i 0) / 16))
-    (pick (eqb (i .name) BX) (single i (register (place i 0)) 1 0)
+    pick (eqb (i .name) MRS) (status i 0 (at i 0 .reg) 0 0 (at i 1 .how))
+    (pick (eqb (i .name) MSR) (status i (at i 1 .reg) 0 (at i 0 .amount % 16) 1 (at i 0 .amount / 16))
+    (pick (eqb (i .name) BX) (single i (at i 0 .reg) 1 0)
     (pick (eqb (i .name) CLZ) (several i 1 0 3)
-    (pick (eqb (i .name) BXJ) (single i (register (place i 0)) 2 0)
-    (pick (eqb (i .name) BLX) (single i (register (place i 0)) 3 0)
+    (pick (eqb (i .name) BXJ) (single i (at i 0 .reg) 2 0)
+    (pick (eqb (i .name) BLX) (single i (at i 0 .reg) 3 0)
     (pick (eqb (i .name) QADD) (saturating i 0)
     (pick (eqb (i .name) QSUB) (saturating i 1)
     (pick (eqb (i .name) QDADD) (saturating i 2)
-    (pick (eqb (i .name) BKPT) (single i (number (place i 0) % 16) 7 (number (place i 0) / 16))
+    (pick (eqb (i .name) BKPT) (single i (number (at i 0) % 16) 7 (number (at i 0) / 16))
     (saturating i 3))))))))))

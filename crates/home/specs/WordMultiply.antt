@@ -6,7 +6,7 @@ use Rattle.word.specs.Choice.{pick}
 use Rattle.word.specs.Layout.{join}
 use Rattle.insn.specs.Name.{MUL, MULS, MLA, MLAS, UMAAL, MLS, UMULL, UMULLS, UMLAL, UMLALS, SMULL, SMULLS, SMLAL}
 use Rattle.insn.specs.declared.Insn.{Insn}
-use Rattle.home.specs.Parts.{place, register}
+use Rattle.parts.specs.Parts.{at}
 
 -- rm 1 00 1 rs rd rn s op 0 000 cond, from bit 0 up
 abbrev pub layout : List ℕ
@@ -17,10 +17,10 @@ abbrev pub laid : Insn → ℕ → ℕ → ℕ → ℕ → ℕ → ℕ → ℕ
 laid i rm rs rd rn s op = join layout (rm ∷ 1 ∷ 0 ∷ 1 ∷ rs ∷ rd ∷ rn ∷ s ∷ op ∷ 0 ∷ 0 ∷ i .cond .0 ∷ [])
 
 abbrev pub short : Insn → ℕ → ℕ → ℕ
-short i s op = laid i (register (place i 1)) (register (place i 2)) (register (place i 3)) (register (place i 0)) s op
+short i s op = laid i (at i 1 .reg) (at i 2 .reg) (at i 3 .reg) (at i 0 .reg) s op
 
 abbrev pub long : Insn → ℕ → ℕ → ℕ
-long i s op = laid i (register (place i 2)) (register (place i 3)) (register (place i 0)) (register (place i 1)) s op
+long i s op = laid i (at i 2 .reg) (at i 3 .reg) (at i 0 .reg) (at i 1 .reg) s op
 
 abbrev pub multiplyWord : Insn → ℕ
 multiplyWord i =

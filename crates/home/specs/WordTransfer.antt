@@ -2,12 +2,11 @@
 use mathlib.Core.List.{List, [], _∷_}
 use Prim.Native.Nat.{ℕ, _+_, _-_, _/_, _%_, _^_}
 use lib.Dec.{eqb}
-use lib.IntN.{natAbs}
 use Rattle.word.specs.Choice.{pick}
 use Rattle.word.specs.Layout.{join}
 use Rattle.insn.specs.Name.{LDMDA, LDM, LDMDB, LDMIB, STMDA, STM, STMDB, POP, PUSH, BL, PLDW}
 use Rattle.insn.specs.declared.Insn.{Insn}
-use Rattle.home.specs.Parts.{place, register, number, isWriteBack, memory, up}
+use Rattle.parts.specs.Parts.{at, number, isWriteBack, up}
 
 -- list rn L W 0 PU 100 cond, from bit 0 up
 abbrev pub blockLayout : List ℕ
@@ -19,12 +18,12 @@ laidBlock i list rn l wb kind = join blockLayout (list ∷ rn ∷ l ∷ wb ∷ 0
 -- the base at place 0, the list at place 1
 abbrev pub multiple : Insn → ℕ → ℕ → ℕ
 multiple i l kind =
-    laidBlock i (number (place i 1)) (register (place i 0)) l (pick (isWriteBack (place i 0)) 1 0) kind
+    laidBlock i (number (at i 1)) (at i 0 .reg) l (pick (isWriteBack (at i 0)) 1 0) kind
 
 abbrev pub blockWord : Insn → ℕ
 blockWord i =
-    pick (eqb (i .name) POP) (laidBlock i (number (place i 0)) 13 1 1 1)
-    (pick (eqb (i .name) PUSH) (laidBlock i (number (place i 0)) 13 0 1 2)
+    pick (eqb (i .name) POP) (laidBlock i (number (at i 0)) 13 1 1 1)
+    (pick (eqb (i .name) PUSH) (laidBlock i (number (at i 0)) 13 0 1 2)
     (pick (eqb (i .name) LDMDA) (multiple i 1 0)
     (pick (eqb (i .name) LDM) (multiple i 1 1)
     (pick (eqb (i .name) LDMDB) (multiple i 1 2)
@@ -39,7 +38,7 @@ unfoldable pub offsetOf : ℕ → ℕ → ℕ
 offsetOf addr to = (to + (2 ^ 32 - (addr + 8) % 2 ^ 32)) % 2 ^ 32
 
 abbrev pub offset : Insn → ℕ
-offset i = offsetOf (i .addr) (number (place i 0))
+offset i = offsetOf (i .addr) (number (at i 0))
 
 -- offset L 101 cond, from bit 0 up
 abbrev pub branchLayout : List ℕ
@@ -61,13 +60,4 @@ preloadLayout = 12 ∷ 4 ∷ 4 ∷ 2 ∷ 1 ∷ 1 ∷ 4 ∷ 4 ∷ []
 
 abbrev pub preloadWord : Insn → ℕ
 preloadWord i =
-    join preloadLayout
-    (natAbs (memory (place i 0) .disp)
-    ∷ 15
-    ∷ memory (place i 0) .base .0
-    ∷ 0
-    ∷ pick (eqb (i .name) PLDW) 1 0
-    ∷ up (memory (place i 0) .disp)
-    ∷ 5
-    ∷ i .cond .0
-    ∷ [])
+    join preloadLayout (at i 0 .value ∷ 15 ∷ at i 0 .reg ∷ 0 ∷ pick (eqb (i .name) PLDW) 1 0 ∷ up (at i 0 .negative) ∷ 5 ∷ i .cond .0 ∷ [])

@@ -6,8 +6,9 @@ use mathlib.Core.Logic.{_↔_}
 use borrow.Author.Tests.{eqb-true, eq-eqb}
 use Prim.Native.Nat.{ℕ}
 use lib.Dec.{eqb}
-use lib.IntN.{ℤ, pos, negsuc}
-use Rattle.word.specs.Choice.{pick, both}
+use lib.IntN.{ℤ, pos, negsuc, natAbs}
+use Rattle.word.specs.Choice.{pick, both, parts}
+use Rattle.word.specs.Signed.{minus}
 use Rattle.insn.specs.Numbers.{shiftNumber, statusNumber, modeNumber, flowNumber, flowTarget}
 use Rattle.insn.specs.declared.Shift.{Shift}
 use Rattle.insn.specs.declared.Shift.the-variants.{Lsl, Lsr, Asr, Ror}
@@ -24,8 +25,9 @@ use Rattle.insn.specs.declared.Place.{Place}
 use Rattle.insn.specs.declared.Flow.{Flow}
 use Rattle.insn.specs.declared.Flow.the-variants.{Next, Branch, CondBranch, IndirectBranch, Call, IndirectCall, Return, Trap}
 use Rattle.insn.specs.declared.Insn.{Insn}
-use Rattle.same.specs.declared.Flat.{Flat}
-use Rattle.same.specs.Same.{signNumber, magnitude, markNumber, indexNumber, indexReg, indexAmount, memFlat, operandFlat, sameFlat, sameOperand, samePlaces, sameFlow, sameOf}
+use Rattle.parts.specs.declared.Flat.{Flat}
+use Rattle.parts.specs.Operands.{signNumber, markNumber, indexNumber, indexReg, indexAmount, memFlat, operandFlat}
+use Rattle.same.specs.Same.{sameFlat, sameOperand, samePlaces, sameFlow, sameOf}
 
 -- the way back from the numbers
 
@@ -61,9 +63,9 @@ mark-back false = refl
 mark-back true = refl
 
 abbrev signedBack : ℕ → ℕ → ℤ
-signedBack s n = pick (eqb s 0) (pos n) (negsuc n)
+signedBack s n = pick (eqb s 0) (pos n) (minus n)
 
-signed-back : (z : ℤ) → signedBack (signNumber z) (magnitude z) ≡ z
+signed-back : (z : ℤ) → signedBack (signNumber z) (natAbs z) ≡ z
 signed-back (pos n) = refl
 signed-back (negsuc n) = refl
 
@@ -148,12 +150,8 @@ flow-back Trap = refl
 
 -- what is the same is equal
 
-split : (t u : Bool) → both t u ≡ true → (t ≡ true) × (u ≡ true)
-split true u h = (refl, h)
-split false u h = absurd (false≢true h)
-
 step : (a b : ℕ) (u : Bool) → both (eqb a b) u ≡ true → (a ≡ b) × (u ≡ true)
-step a b u h = let s = split (eqb a b) u h in (eqb-true a b (s .0), s .1)
+step a b u h = let s = parts (eqb a b) u h in (eqb-true a b (s .0), s .1)
 
 flat-equal : (x y : Flat) → sameFlat x y ≡ true → x ≡ y
 flat-equal x y h =
@@ -189,7 +187,7 @@ places-equal : (ps qs : List Place) → samePlaces ps qs ≡ true → ps ≡ qs
 places-equal [] [] h = refl
 places-equal [] (q ∷ qs) h = absurd (false≢true h)
 places-equal (p ∷ ps) (q ∷ qs) h =
-    let s = split (sameOperand (p .operand) (q .operand)) (samePlaces ps qs) h in
+    let s = parts (sameOperand (p .operand) (q .operand)) (samePlaces ps qs) h in
     let first = operand-equal (p .operand) (q .operand) (s .0) in
     let rest = places-equal ps qs (s .1) in
     λ i. record { operand = first i } ∷ rest i
@@ -206,7 +204,7 @@ insn-equal a b h =
     let addr = step (a .addr) (b .addr) _ h in
     let name = step (a .name) (b .name) _ (addr .1) in
     let cond = step (a .cond .0) (b .cond .0) _ (name .1) in
-    let rest = split (sameFlow (a .flow) (b .flow)) (samePlaces (a .ops) (b .ops)) (cond .1) in
+    let rest = parts (sameFlow (a .flow) (b .flow)) (samePlaces (a .ops) (b .ops)) (cond .1) in
     let flow = flow-equal (a .flow) (b .flow) (rest .0) in
     let ops = places-equal (a .ops) (b .ops) (rest .1) in
     λ i. record {

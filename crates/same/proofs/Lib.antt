@@ -1,5 +1,4 @@
 -- Facts of the crate that belong to no one function.
-pub mod Below
 pub mod Tests
 pub mod Exact
 pub mod Unique

@@ -2,7 +2,7 @@
 use mathlib.Core.Path.{_≡_, sym, ap, _∙_, subst}
 use mathlib.Core.Bool.{true}
 use Prim.Native.Nat.{ℕ, _+_, _*_, _/_, _%_, _^_, _<_, _≤_}
-use native.Mathlib.Nat.{le-add-left, le-dest, mod-lt, add-comm, add-assoc, add-mul, mul-assoc, mul-comm, mul-add-mod-self-right}
+use native.Mathlib.Nat.{le-add-left, lt-of-le-of-lt, le-dest, mod-lt, add-comm, add-assoc, add-mul, mul-assoc, mul-comm, mul-add-mod-self-right}
 use native.Mathlib.Omega.{arith}
 use lib.Arith.{digits-lt}
 use lib.Dec.{T, leb, ltb, leb→le}
@@ -119,6 +119,9 @@ clear-le w lo k = omega (arith, P.split w (lo + k), fewer)
   where
     fewer : w % 2 ^ lo ≤ w % 2 ^ (lo + k)
     fewer = rw (add-comm lo k, P.mod-pow-add w k lo) (le-add-left (w % 2 ^ lo) (w / 2 ^ lo % 2 ^ k * 2 ^ lo))
+
+pub clear-small : (w lo k : ℕ) {n : ℕ} → w < n → clear w lo k < n
+clear-small w lo k bound = lt-of-le-of-lt (clear-le w lo k) bound
 
 -- a word is what stands above a field, the field, and what stands below it
 pub parted : (w lo k : ℕ) → put w lo k (field w lo k) ≡ w

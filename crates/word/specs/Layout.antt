@@ -1,10 +1,13 @@
 -- A word as the list of its fields, and back: one law for every layout.
 use mathlib.Core.Path.{_≡_, sym, ap, _∙_, subst}
+use mathlib.Core.Bool.{Bool, true}
 use mathlib.Core.List.{List, [], _∷_}
 use Prim.Native.Nat.{ℕ, _+_, _*_, _/_, _%_, _^_, _<_}
 use native.Mathlib.Nat.{mod-one, mod-eq-of-lt, div-one}
-use lib.Pow.{shr-shr, mod-pow-add, pow-add}
+use lib.Dec.{ltb}
+use lib.Pow.{shr-shr, mod-pow-add, pow-add, high, low}
 use lib.Arith.{digits-lt}
+use Rattle.word.specs.Choice.{both}
 use Rattle.word.specs.Field.{field, small}
 
 -- the fields of w at these widths, from place lo up
@@ -18,11 +21,17 @@ join [] vs = 0
 join (k ∷ ks) [] = 0
 join (k ∷ ks) (v ∷ vs) = join ks vs * 2 ^ k + v
 
+-- every field is narrower than a word
+abbrev pub narrow : List ℕ → Bool
+narrow [] = true
+narrow (k ∷ ks) = both (ltb k 32) (narrow ks)
+
 abbrev pub total : List ℕ → ℕ
 total [] = 0
 total (k ∷ ks) = total ks + k
 
-rejoin : (ks : List ℕ) (lo w : ℕ) → join ks (fields lo ks w) ≡ field w lo (total ks)
+-- a field is the join of its parts
+pub rejoin : (ks : List ℕ) (lo w : ℕ) → join ks (fields lo ks w) ≡ field w lo (total ks)
 unfolding field
 rejoin [] lo w = sym (mod-one _)
 rejoin (k ∷ ks) lo w =
@@ -43,3 +52,10 @@ joined w lo k lo' k' = field w lo k * 2 ^ k' + field w lo' k'
 pub joined-small : (w lo j lo' k : ℕ) → joined w lo j lo' k < 2 ^ (j + k)
 joined-small w lo j lo' k =
     subst (λ (n : ℕ). joined w lo j lo' k < n) (sym (pow-add 2 j k)) (digits-lt (small w lo j) (small w lo' k))
+
+-- cut in two again
+pub upper : (w lo j lo' k : ℕ) → joined w lo j lo' k / 2 ^ k ≡ field w lo j
+upper w lo j lo' k = high (field w lo j) k (small w lo' k)
+
+pub lower : (w lo j lo' k : ℕ) → joined w lo j lo' k % 2 ^ k ≡ field w lo' k
+lower w lo j lo' k = low (field w lo j) k (small w lo' k)

@@ -3,4 +3,5 @@ pub mod Choice
 pub mod Every
 pub mod Field
 pub mod Layout
+pub mod Only
 pub mod Signed

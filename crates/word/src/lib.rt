@@ -1,11 +1,12 @@
 //! The fields of a word, and 32-bit numbers that stand for signed ones.
 ghost use mathlib.Core.Path.{_≡_};
-ghost use Prim.Native.Nat.{_+_, _-_, _≤_, _<_, _^_};
+ghost use Prim.Native.Nat.{_+_, _-_, _%_, _≤_, _<_, _^_};
+ghost use lib.Dec.{T};
 ghost use lib.IntN.{pos};
 ghost use lib.ListN.{length};
 ghost use Rattle.word.specs.Bytes.{wordAt};
 ghost use Rattle.word.specs.Field.{field};
-ghost use Rattle.word.specs.Layout.{joined};
+ghost use Rattle.word.specs.Layout.{join, narrow, joined};
 ghost use Rattle.word.specs.Signed.{sextOf, targetOf, minus, signed};
 
 /// Bits `hi..=lo` of `w`.
@@ -30,6 +31,22 @@ pub fn bits_then(w: u32, hi: u32, lo: u32, hi2: u32, lo2: u32) -> u32
     ensures { λ r. ⌜ r ≡ joined w lo (hi - lo + 1) lo2 (hi2 - lo2 + 1) ⌝ }
 {
     bits(w, hi, lo) * (1 << (hi2 - lo2 + 1)) + bits(w, hi2, lo2)
+}
+
+/// The word that has these fields, each as wide as `widths` says, lowest first. What does not fit spills into the fields above, and is
+/// lost past bit 31.
+pub fn join(widths: &[u64], values: &[u64]) -> u32
+    requires { ⌜ (length (now widths) ≡ length (now values)) × T (narrow (now widths)) ⌝ }
+    ensures { λ r. ⌜ r ≡ join (now (widths .entry)) (now (values .entry)) % 2 ^ 32 ⌝ }
+{
+    let mut w: u64 = 0;
+    let mut n = widths.len();
+    while 0 < n {
+        n -= 1;
+        let above = (w << widths[n]) % 0x1_0000_0000;
+        w = (above + values[n] % 0x1_0000_0000) % 0x1_0000_0000;
+    }
+    w as u32
 }
 
 /// The low `n` bits of `v`, a signed number, widened to 32 bits.

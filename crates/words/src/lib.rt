@@ -1,7 +1,4 @@
 //! The word that an instruction value leads to, put together from its name and operands, group by group.
-use crate::parts::ADDRESS;
-use crate::parts::COUNT;
-use crate::parts::is_at;
 use crate::word_dp::dp_word;
 use crate::word_dp::msr_immediate_word;
 use crate::word_dp::wide_word;
@@ -9,12 +6,15 @@ use crate::word_extra::extra_word;
 use crate::word_ldst::ldst_word;
 use crate::word_media::media_word;
 use crate::word_misc::misc_word;
-use crate::word_transfer::block_word;
-use crate::word_transfer::blx_word;
-use crate::word_transfer::branch_word;
-use crate::word_transfer::preload_word;
 use insn::Insn;
 use insn::name;
+use parts::read::ADDRESS;
+use parts::read::COUNT;
+use parts::read::is_at;
+use transfer_words::block_word;
+use transfer_words::blx_word;
+use transfer_words::branch_word;
+use transfer_words::preload_word;
 ghost use mathlib.Core.Path.{_≡_};
 ghost use Prim.Native.Nat.{_%_, _^_};
 ghost use lib.Dec.{eqb};
@@ -24,16 +24,12 @@ ghost use Rattle.home.specs.Word as W;
 ghost use Rattle.home.specs.WordTransfer.{blxWord, branchWord};
 ghost use Rattle.words.specs.Candidate.{candidate};
 
-pub mod form;
-pub mod join;
-pub mod parts;
-pub mod word_dp;
-pub mod word_extra;
-pub mod word_ldst;
-pub mod word_media;
-pub mod word_misc;
-pub mod word_multiply;
-pub mod word_transfer;
+mod word_dp;
+mod word_extra;
+mod word_ldst;
+mod word_media;
+mod word_misc;
+mod word_multiply;
 
 /// Msr has one form in two groups.
 fn status_word(i: Insn) -> u32

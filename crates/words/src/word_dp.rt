@@ -1,21 +1,18 @@
 //! The word of a data processing instruction, from its answer.
-use crate::join::Join;
-use crate::parts::COUNT;
-use crate::parts::REGISTER;
-use crate::parts::SHIFT_BY;
-use crate::parts::amount;
-use crate::parts::is_at;
-use crate::parts::is_kind;
-use crate::parts::kind;
-use crate::parts::number;
-use crate::parts::number_at;
-use crate::parts::place;
-use crate::parts::register;
-use crate::parts::register_at;
 use insn::Flow;
 use insn::Insn;
-use insn::Operand;
 use insn::name;
+use parts::Flat;
+use parts::read::COUNT;
+use parts::read::REGISTER;
+use parts::read::SHIFT_BY;
+use parts::read::amount_at;
+use parts::read::at;
+use parts::read::cond;
+use parts::read::number;
+use parts::read::number_at;
+use parts::read::register_at;
+use word::join;
 ghost use mathlib.Core.List.{[], _∷_};
 ghost use mathlib.Core.Path.{_≡_};
 ghost use Prim.Native.Nat.{_+_, _*_, _/_, _%_, _^_, _≤_, _<_};
@@ -24,7 +21,7 @@ ghost use Rattle.insn.specs.Name.{MOVW};
 ghost use Rattle.word.specs.Choice.{pick, both};
 ghost use Rattle.word.specs.Layout.{join};
 ghost use Rattle.imm.specs.Imm.{turnedLeft};
-ghost use Rattle.home.specs.Parts as P;
+ghost use Rattle.parts.specs.Parts as P;
 ghost use Rattle.home.specs.WordDp as W;
 
 /// 24:21 of the names that set the flags and are no compares.
@@ -81,92 +78,80 @@ fn least(v: u64) -> u64
 }
 
 /// A rotation and the byte that it turns.
-fn pair(rotation: u64, byte: u64) -> u64
+fn pair(rotation: u64, byte: u64) -> u32
     ensures { λ r. ⌜ r ≡ (256 * rotation + byte) % 2 ^ 32 ⌝ }
 {
-    let above = Join((rotation % 0x1_0000_0000) as u32);
-    above.field(8, byte).word() as u64
+    join(&[8, 4], &[byte, rotation])
 }
 
 /// The immediate of one count or two.
-fn imm12(value: Operand, turn: Operand) -> u64
+fn imm12(value: Flat, turn: Flat) -> u64
     ensures { λ r. ⌜ r ≡ W.imm12 value turn % 2 ^ 32 ⌝ }
 {
-    if is_kind(turn, COUNT) {
-        pair(number(turn) / 2, number(value))
+    if turn.kind == COUNT {
+        pair(number(turn) / 2, number(value)) as u64
     } else {
         least(number(value)) % 0x1_0000_0000
     }
 }
 
-fn by_immediate(i: Insn, imm: u64, rd: u64, rn: u64, s: u64, op: u64) -> u32
-    ensures { λ r. ⌜ r ≡ join W.byImmediate (imm ∷ rd ∷ rn ∷ s ∷ op ∷ 1 ∷ i .cond .0 ∷ []) % 2 ^ 32 ⌝ }
+/// rm 0 ty imm5, from bit 0 up.
+const AMOUNT: [u64; 4] = [4, 1, 2, 5];
+
+fn by_amount(rm: u64, ty: u64, n: u64) -> u32
+    ensures { λ r. ⌜ r ≡ W.byAmount rm ty n % 2 ^ 32 ⌝ }
 {
-    Join::new(i)
-        .field(3, 1)
-        .field(4, op)
-        .field(1, s)
-        .field(4, rn)
-        .field(4, rd)
-        .field(12, imm)
-        .word()
+    join(&AMOUNT, &[rm, 0, ty, n])
 }
 
-fn by_register(i: Insn, rm: u64, ty: u64, rs: u64, rd: u64, rn: u64, s: u64, op: u64) -> u32
-    ensures { λ r. ⌜ r ≡ join W.byRegister (rm ∷ 1 ∷ ty ∷ 0 ∷ rs ∷ rd ∷ rn ∷ s ∷ op ∷ 0 ∷ i .cond .0 ∷ []) % 2 ^ 32 ⌝ }
+/// rm 1 ty 0 rs, from bit 0 up.
+const REGISTERS: [u64; 5] = [4, 1, 2, 1, 4];
+
+fn by_register(rm: u64, ty: u64, rs: u64) -> u32
+    ensures { λ r. ⌜ r ≡ W.byRegister rm ty rs % 2 ^ 32 ⌝ }
 {
-    Join::new(i)
-        .field(3, 0)
-        .field(4, op)
-        .field(1, s)
-        .field(4, rn)
-        .field(4, rd)
-        .field(4, rs)
-        .field(1, 0)
-        .field(2, ty)
-        .field(1, 1)
-        .field(4, rm)
-        .word()
+    join(&REGISTERS, &[rm, 1, ty, 0, rs])
 }
 
-fn by_amount(i: Insn, rm: u64, ty: u64, n: u64, rd: u64, rn: u64, s: u64, op: u64) -> u32
-    ensures { λ r. ⌜ r ≡ join W.byAmount (rm ∷ 0 ∷ ty ∷ n ∷ rd ∷ rn ∷ s ∷ op ∷ 0 ∷ i .cond .0 ∷ []) % 2 ^ 32 ⌝ }
+/// 11:0 of a source that takes one operand or two.
+fn source12(source: Flat, by: Flat) -> u64
+    ensures { λ r. ⌜ r ≡ W.source12 source by % 2 ^ 32 ⌝ }
 {
-    Join::new(i)
-        .field(3, 0)
-        .field(4, op)
-        .field(1, s)
-        .field(4, rn)
-        .field(4, rd)
-        .field(5, n)
-        .field(2, ty)
-        .field(1, 0)
-        .field(4, rm)
-        .word()
+    if source.kind == COUNT {
+        return imm12(source, by);
+    }
+    if by.kind == SHIFT_BY {
+        by_register(source.reg as u64, by.how as u64, by.reg as u64) as u64
+    } else {
+        by_amount(
+            source.reg as u64,
+            source.how as u64,
+            (source.amount % 32) as u64,
+        ) as u64
+    }
+}
+
+/// Whether a source is an immediate, bit 25.
+fn immediate(source: Flat) -> u64
+    ensures { λ r. ⌜ r ≡ W.immediate source ⌝ }
+{
+    if source.kind == COUNT { 1 } else { 0 }
+}
+
+/// 11:0 rd rn s op 00i cond, from bit 0 up.
+const LAYOUT: [u64; 7] = [12, 4, 4, 1, 4, 3, 4];
+
+fn laid(i: Insn, low: u64, rd: u64, rn: u64, s: u64, op: u64, imm: u64) -> u32
+    ensures { λ r. ⌜ r ≡ W.laid i low rd rn s op imm % 2 ^ 32 ⌝ }
+{
+    join(&LAYOUT, &[low, rd, rn, s, op, imm, cond(i)])
 }
 
 /// A word of Rd, Rn, operation and S, with a source that takes one operand or two.
-fn sourced(i: Insn, rd: u64, rn: u64, op: u64, s: u64, source: Operand, by: Operand) -> u32
+fn sourced(i: Insn, rd: u64, rn: u64, op: u64, s: u64, source: Flat, by: Flat) -> u32
     ensures { λ r. ⌜ r ≡ W.sourced i rd rn op s source by % 2 ^ 32 ⌝ }
 {
-    if is_kind(source, COUNT) {
-        by_immediate(i, imm12(source, by), rd, rn, s, op)
-    } else {
-        if is_kind(by, SHIFT_BY) {
-            by_register(i, register(source), kind(by), register(by), rd, rn, s, op)
-        } else {
-            by_amount(
-                i,
-                register(source),
-                kind(source),
-                amount(source) % 32,
-                rd,
-                rn,
-                s,
-                op,
-            )
-        }
-    }
+    laid(i, source12(source, by), rd, rn, s, op, immediate(source))
 }
 
 fn is_indirect(flow: Flow) -> bool
@@ -209,52 +194,49 @@ fn operation_word(i: Insn, op: u64, s: u64) -> u32
             register_at(i, 0),
             op,
             s,
-            place(i, 1),
-            place(i, 2),
+            at(i, 1),
+            at(i, 2),
         );
     }
     match op {
-        13 => sourced(i, register_at(i, 0), 0, op, s, place(i, 1), place(i, 2)),
-        15 => sourced(i, register_at(i, 0), 0, op, s, place(i, 1), place(i, 2)),
+        13 => sourced(i, register_at(i, 0), 0, op, s, at(i, 1), at(i, 2)),
+        15 => sourced(i, register_at(i, 0), 0, op, s, at(i, 1), at(i, 2)),
         _ => sourced(
             i,
             register_at(i, 0),
             register_at(i, 1),
             op,
             s,
-            place(i, 2),
-            place(i, 3),
+            at(i, 2),
+            at(i, 3),
         ),
     }
 }
 
-/// A shift's name: mov of Rm shifted by a count, by a register, or through the carry.
+/// 11:0 of Rm shifted by a count, by a register, or through the carry.
+fn shift12(rm: u64, ty: u64, by: Flat) -> u64
+    ensures { λ r. ⌜ r ≡ W.shift12 rm ty by % 2 ^ 32 ⌝ }
+{
+    if by.kind == REGISTER {
+        by_register(rm, ty, by.reg as u64) as u64
+    } else {
+        by_amount(rm, ty, number(by) % 32) as u64
+    }
+}
+
+/// A shift's name is a mov.
 fn shift_word(i: Insn, ty: u64, s: u64) -> u32
     ensures { λ r. ⌜ r ≡ W.shiftWord i ty s % 2 ^ 32 ⌝ }
 {
-    if is_at(i, 2, REGISTER) {
-        by_register(
-            i,
-            register_at(i, 1),
-            ty,
-            register_at(i, 2),
-            register_at(i, 0),
-            0,
-            s,
-            13,
-        )
-    } else {
-        by_amount(
-            i,
-            register_at(i, 1),
-            ty,
-            number_at(i, 2) % 32,
-            register_at(i, 0),
-            0,
-            s,
-            13,
-        )
-    }
+    laid(
+        i,
+        shift12(register_at(i, 1), ty, at(i, 2)),
+        register_at(i, 0),
+        0,
+        s,
+        13,
+        0,
+    )
 }
 
 /// And .. mvns, lsl .. ror, lsls .. rors, rrxs, rrx.
@@ -285,30 +267,33 @@ fn wide_operation(n: u16) -> u64
     if n == name::MOVW { 16 } else { 20 }
 }
 
+/// imm12 rd imm4 op 001 cond, from bit 0 up.
+const WIDE: [u64; 6] = [12, 4, 4, 5, 3, 4];
+
 fn wide(i: Insn) -> u32
-    ensures { λ r. ⌜ r ≡ join W.wideLayout (P.number (P.place i 1) % 4096 ∷ P.register (P.place i 0) ∷ P.number (P.place i 1) / 4096 ∷ pick (eqb (i .name) MOVW) 16 20 ∷ 1 ∷ i .cond .0 ∷ []) % 2 ^ 32 ⌝ }
+    ensures { λ r. ⌜ r ≡ join W.wideLayout (P.number (P.at i 1) % 4096 ∷ P.at i 0 .reg ∷ P.number (P.at i 1) / 4096 ∷ pick (eqb (i .name) MOVW) 16 20 ∷ 1 ∷ i .cond .0 ∷ []) % 2 ^ 32 ⌝ }
 {
     let n = number_at(i, 1);
-    Join::new(i)
-        .field(3, 1)
-        .field(5, wide_operation(i.name))
-        .field(4, n / 4096)
-        .field(4, register_at(i, 0))
-        .field(12, n % 4096)
-        .word()
+    join(
+        &WIDE,
+        &[
+            n % 4096,
+            register_at(i, 0),
+            n / 4096,
+            wide_operation(i.name),
+            1,
+            cond(i),
+        ],
+    )
 }
+
+/// hint 0000 1111 0000 10010 001 cond, from bit 0 up.
+const HINT: [u64; 7] = [8, 4, 4, 4, 5, 3, 4];
 
 fn hint(i: Insn, n: u64) -> u32
     ensures { λ r. ⌜ r ≡ join W.hintLayout (n ∷ 0 ∷ 15 ∷ 0 ∷ 18 ∷ 1 ∷ i .cond .0 ∷ []) % 2 ^ 32 ⌝ }
 {
-    Join::new(i)
-        .field(3, 1)
-        .field(5, 18)
-        .field(4, 0)
-        .field(4, 15)
-        .field(4, 0)
-        .field(8, n)
-        .word()
+    join(&HINT, &[n, 0, 15, 0, 18, 1, cond(i)])
 }
 
 /// Movt, movw, nop, yield, wfe, wfi, sev.
@@ -323,17 +308,24 @@ pub fn wide_word(i: Insn) -> u32
     }
 }
 
+/// imm12 0000 mask 10 r 10 001 cond, from bit 0 up.
+const MSR: [u64; 8] = [12, 4, 4, 2, 1, 2, 3, 4];
+
 pub fn msr_immediate_word(i: Insn) -> u32
     ensures { λ r. ⌜ r ≡ W.msrImmediateWord i % 2 ^ 32 ⌝ }
 {
-    let mask = number_at(i, 0);
-    Join::new(i)
-        .field(3, 1)
-        .field(2, 2)
-        .field(1, mask / 16)
-        .field(2, 2)
-        .field(4, mask % 16)
-        .field(4, 0)
-        .field(12, imm12(place(i, 1), place(i, 2)))
-        .word()
+    let mask = amount_at(i, 0);
+    join(
+        &MSR,
+        &[
+            imm12(at(i, 1), at(i, 2)),
+            0,
+            mask % 16,
+            2,
+            mask / 16,
+            2,
+            1,
+            cond(i),
+        ],
+    )
 }

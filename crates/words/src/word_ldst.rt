@@ -1,22 +1,16 @@
 //! The word of a load or a store, from its answer.
-use crate::form::base;
-use crate::form::bit_p;
-use crate::form::bit_u;
-use crate::form::distance;
-use crate::form::memory_at;
-use crate::join::Join;
-use crate::parts::register_at;
-use insn::AddrMode;
-use insn::Index;
 use insn::Insn;
-use insn::Mem;
 use insn::name;
-ghost use mathlib.Core.List.{[], _∷_};
+use parts::Flat;
+use parts::read::at;
+use parts::read::bit_p;
+use parts::read::bit_u;
+use parts::read::bit_w;
+use parts::read::cond;
+use parts::read::register_at;
+use word::join;
 ghost use mathlib.Core.Path.{_≡_};
 ghost use Prim.Native.Nat.{_%_, _^_};
-ghost use Rattle.word.specs.Layout.{join};
-ghost use Rattle.home.specs.Parts as P;
-ghost use Rattle.home.specs.WordExtra.{bitP, bitU};
 ghost use Rattle.home.specs.WordLdst as W;
 
 /// L.
@@ -59,70 +53,60 @@ fn user_bit(n: u16) -> u64
 }
 
 /// W, by the mode or the name.
-fn write_bit(mode: AddrMode, n: u16) -> u64
+fn write_bit(mode: u8, n: u16) -> u64
     ensures { λ r. ⌜ r ≡ W.writeBit mode n ⌝ }
 {
-    match mode {
-        AddrMode::Offset => 0,
-        AddrMode::PreIndex => 1,
-        AddrMode::PostIndex => user_bit(n),
+    if mode == 2 { user_bit(n) } else { bit_w(mode) }
+}
+
+/// rm 0 00 shift, from bit 0 up.
+const INDEX: [u64; 4] = [4, 1, 2, 5];
+
+/// 11:0: the displacement, or the index with its shift.
+fn offset12(f: Flat) -> u64
+    ensures { λ r. ⌜ r ≡ W.offset12 f % 2 ^ 32 ⌝ }
+{
+    if f.how == 0 {
+        f.value % 0x1_0000_0000
+    } else {
+        join(&INDEX, &[f.index as u64, 0, 0, f.amount as u64]) as u64
     }
 }
 
-/// With the displacement in 11:0.
-fn by_displacement(i: Insn, m: Mem) -> u32
-    ensures { λ r. ⌜ r ≡ W.byIndex Index.Absent i m % 2 ^ 32 ⌝ }
+/// U: an index is added.
+fn added_bit(f: Flat) -> u64
+    ensures { λ r. ⌜ r ≡ W.addedBit f ⌝ }
 {
-    let mode = m.mode;
-    Join::new(i)
-        .field(2, 1)
-        .field(1, 0)
-        .field(1, bit_p(mode))
-        .field(1, bit_u(m))
-        .field(1, byte_bit(i.name))
-        .field(1, write_bit(mode, i.name))
-        .field(1, load_bit(i.name))
-        .field(4, base(m))
-        .field(4, register_at(i, 0))
-        .field(12, distance(m))
-        .word()
+    if f.how == 0 { bit_u(f) } else { 1 }
 }
 
-/// With a register in 3:0, shifted left by 11:7.
-fn by_register(i: Insn, m: Mem, rm: u64, n: u64) -> u32
-    ensures { λ r. ⌜ r ≡ join W.indexLayout (rm ∷ 0 ∷ 0 ∷ n ∷ P.register (P.place i 0) ∷ m .base .0 ∷ W.loadBit (i .name) ∷ W.writeBit (m .mode) (i .name) ∷ W.byteBit (i .name) ∷ 1 ∷ bitP (m .mode) ∷ 1 ∷ 1 ∷ i .cond .0 ∷ []) % 2 ^ 32 ⌝ }
-{
-    let mode = m.mode;
-    Join::new(i)
-        .field(2, 1)
-        .field(1, 1)
-        .field(1, bit_p(mode))
-        .field(1, 1)
-        .field(1, byte_bit(i.name))
-        .field(1, write_bit(mode, i.name))
-        .field(1, load_bit(i.name))
-        .field(4, base(m))
-        .field(4, register_at(i, 0))
-        .field(5, n)
-        .field(2, 0)
-        .field(1, 0)
-        .field(4, rm)
-        .word()
-}
+/// 11:0 rd rn L W B U P I 01 cond, from bit 0 up.
+const LAYOUT: [u64; 11] = [12, 4, 4, 1, 1, 1, 1, 1, 1, 2, 4];
 
-fn by_index(index: Index, i: Insn, m: Mem) -> u32
-    ensures { λ r. ⌜ r ≡ W.byIndex index i m % 2 ^ 32 ⌝ }
+fn laid(i: Insn, f: Flat) -> u32
+    ensures { λ r. ⌜ r ≡ W.laid i f % 2 ^ 32 ⌝ }
 {
-    match index {
-        Index::Absent => by_displacement(i, m),
-        Index::Left(r, n) => by_register(i, m, r.0 as u64, n as u64),
-    }
+    let n = i.name;
+    join(
+        &LAYOUT,
+        &[
+            offset12(f),
+            register_at(i, 0),
+            f.reg as u64,
+            load_bit(n),
+            write_bit(f.mode, n),
+            byte_bit(n),
+            added_bit(f),
+            bit_p(f.mode),
+            f.how as u64,
+            1,
+            cond(i),
+        ],
+    )
 }
 
 pub fn ldst_word(i: Insn) -> u32
     ensures { λ r. ⌜ r ≡ W.ldstWord i % 2 ^ 32 ⌝ }
 {
-    let m = memory_at(i, 1);
-    let index = m.index;
-    by_index(index, i, m)
+    laid(i, at(i, 1))
 }

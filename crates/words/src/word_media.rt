@@ -1,27 +1,24 @@
 //! The word of a media instruction, from its answer.
-use crate::join::Join;
-use crate::parts::amount_at;
-use crate::parts::kind_at;
-use crate::parts::number_at;
-use crate::parts::register_at;
 use insn::Insn;
 use insn::name;
+use parts::read::amount_at;
+use parts::read::cond;
+use parts::read::how_at;
+use parts::read::number_at;
+use parts::read::register_at;
+use word::join;
 ghost use mathlib.Core.Path.{_≡_};
 ghost use Prim.Native.Nat.{_+_, _-_, _%_, _^_};
 ghost use Rattle.home.specs.WordMedia as W;
+
+/// number 1 7:5 number op 011 cond, from bit 0 up.
+const UDF: [u64; 7] = [4, 1, 3, 12, 5, 3, 4];
 
 fn udf_word(i: Insn) -> u32
     ensures { λ r. ⌜ r ≡ W.udfWord i % 2 ^ 32 ⌝ }
 {
     let n = number_at(i, 0);
-    Join::new(i)
-        .field(3, 3)
-        .field(5, 31)
-        .field(12, n / 16)
-        .field(3, 7)
-        .field(1, 1)
-        .field(4, n % 16)
-        .word()
+    join(&UDF, &[n % 16, 1, 7, n / 16, 31, 3, cond(i)])
 }
 
 /// One less, or 0.
@@ -31,19 +28,29 @@ fn less(n: u64) -> u64
     if n == 0 { 0 } else { n - 1 }
 }
 
+/// rm 1 6:5 lsb rd 20:16 24:21 011 cond, from bit 0 up.
+const BITS: [u64; 9] = [4, 1, 2, 5, 4, 5, 4, 3, 4];
+
+fn bits_laid(i: Insn, op: u64, low: u64, rm: u64, lsb: u64, rest: u64) -> u32
+    ensures { λ r. ⌜ r ≡ W.bitsLaid i op low rm lsb rest % 2 ^ 32 ⌝ }
+{
+    join(
+        &BITS,
+        &[rm, 1, low, lsb, register_at(i, 0), rest, op, 3, cond(i)],
+    )
+}
+
 fn bfx_word(op: u64, i: Insn) -> u32
     ensures { λ r. ⌜ r ≡ W.bfxWord op i % 2 ^ 32 ⌝ }
 {
-    Join::new(i)
-        .field(3, 3)
-        .field(4, op)
-        .field(5, less(number_at(i, 3)))
-        .field(4, register_at(i, 0))
-        .field(5, number_at(i, 2))
-        .field(2, 2)
-        .field(1, 1)
-        .field(4, register_at(i, 1))
-        .word()
+    bits_laid(
+        i,
+        op,
+        2,
+        register_at(i, 1),
+        number_at(i, 2),
+        less(number_at(i, 3)),
+    )
 }
 
 /// The last of `width` bits from `lsb` on, in 32 bits.
@@ -61,16 +68,7 @@ fn last(lsb: u64, width: u64) -> u64
 fn bf_laid(i: Insn, rm: u64, lsb: u64, width: u64) -> u32
     ensures { λ r. ⌜ r ≡ W.bfLaid i rm lsb width % 2 ^ 32 ⌝ }
 {
-    Join::new(i)
-        .field(3, 3)
-        .field(4, 14)
-        .field(5, last(lsb, width))
-        .field(4, register_at(i, 0))
-        .field(5, lsb)
-        .field(2, 0)
-        .field(1, 1)
-        .field(4, rm)
-        .word()
+    bits_laid(i, 14, 0, rm, lsb, last(lsb, width))
 }
 
 fn bfc_word(i: Insn) -> u32
@@ -85,79 +83,40 @@ fn bfi_word(i: Insn) -> u32
     bf_laid(i, register_at(i, 1), number_at(i, 2), number_at(i, 3))
 }
 
+/// rm 1 7:5 11:8 15:12 19:16 op 011 cond, from bit 0 up.
+const LAYOUT: [u64; 9] = [4, 1, 3, 4, 4, 4, 5, 3, 4];
+
+fn laid(i: Insn, op: u64, low: u64, rm: u64, rs: u64, rd: u64, rn: u64) -> u32
+    ensures { λ r. ⌜ r ≡ W.laid i op low rm rs rd rn % 2 ^ 32 ⌝ }
+{
+    join(&LAYOUT, &[rm, 1, low, rs, rd, rn, op, 3, cond(i)])
+}
+
 fn div_word(op: u64, i: Insn) -> u32
     ensures { λ r. ⌜ r ≡ W.divWord op i % 2 ^ 32 ⌝ }
 {
-    Join::new(i)
-        .field(3, 3)
-        .field(5, op)
-        .field(4, register_at(i, 0))
-        .field(4, 0)
-        .field(4, register_at(i, 2))
-        .field(3, 0)
-        .field(1, 1)
-        .field(4, register_at(i, 1))
-        .word()
-}
-
-/// Asr by 32 is written 0.
-fn sat_laid(op: u64, n: u64, i: Insn) -> u32
-    ensures { λ r. ⌜ r ≡ W.satLaid op n i % 2 ^ 32 ⌝ }
-{
-    Join::new(i)
-        .field(3, 3)
-        .field(4, op)
-        .field(1, 0)
-        .field(4, n)
-        .field(4, register_at(i, 0))
-        .field(5, amount_at(i, 3) % 32)
-        .field(1, kind_at(i, 3) / 2)
-        .field(2, 1)
-        .field(4, register_at(i, 2))
-        .word()
-}
-
-fn ssat_word(i: Insn) -> u32
-    ensures { λ r. ⌜ r ≡ W.ssatWord i % 2 ^ 32 ⌝ }
-{
-    sat_laid(5, less(number_at(i, 1)), i)
-}
-
-fn usat_word(i: Insn) -> u32
-    ensures { λ r. ⌜ r ≡ W.usatWord i % 2 ^ 32 ⌝ }
-{
-    sat_laid(7, number_at(i, 1), i)
+    laid(
+        i,
+        op,
+        0,
+        register_at(i, 1),
+        register_at(i, 2),
+        0,
+        register_at(i, 0),
+    )
 }
 
 fn rev_word(op: u64, low: u64, i: Insn) -> u32
     ensures { λ r. ⌜ r ≡ W.revWord op low i % 2 ^ 32 ⌝ }
 {
-    Join::new(i)
-        .field(3, 3)
-        .field(5, op)
-        .field(4, 15)
-        .field(4, register_at(i, 0))
-        .field(4, 15)
-        .field(3, low)
-        .field(1, 1)
-        .field(4, register_at(i, 1))
-        .word()
+    laid(i, op, low, register_at(i, 1), 15, register_at(i, 0), 15)
 }
 
+/// 11:10 is the rotate.
 fn extend_laid(i: Insn, op: u64, rm: u64, rotate: u64, rn: u64) -> u32
     ensures { λ r. ⌜ r ≡ W.extendLaid i op rm rotate rn % 2 ^ 32 ⌝ }
 {
-    Join::new(i)
-        .field(3, 3)
-        .field(5, op)
-        .field(4, rn)
-        .field(4, register_at(i, 0))
-        .field(2, rotate / 8)
-        .field(2, 0)
-        .field(3, 3)
-        .field(1, 1)
-        .field(4, rm)
-        .word()
+    laid(i, op, 3, rm, rotate / 8 * 4, register_at(i, 0), rn)
 }
 
 fn extend_word(op: u64, i: Insn) -> u32
@@ -170,6 +129,42 @@ fn add_extend_word(op: u64, i: Insn) -> u32
     ensures { λ r. ⌜ r ≡ W.addExtendWord op i % 2 ^ 32 ⌝ }
 {
     extend_laid(i, op, register_at(i, 2), amount_at(i, 3), register_at(i, 1))
+}
+
+/// rm 5:4 asr amount rd number 0 24:21 011 cond, from bit 0 up.
+const SATURATE: [u64; 10] = [4, 2, 1, 5, 4, 4, 1, 4, 3, 4];
+
+/// Asr by 32 is written 0.
+fn sat_laid(op: u64, n: u64, i: Insn) -> u32
+    ensures { λ r. ⌜ r ≡ W.satLaid op n i % 2 ^ 32 ⌝ }
+{
+    join(
+        &SATURATE,
+        &[
+            register_at(i, 2),
+            1,
+            how_at(i, 3) / 2,
+            amount_at(i, 3) % 32,
+            register_at(i, 0),
+            n,
+            0,
+            op,
+            3,
+            cond(i),
+        ],
+    )
+}
+
+fn ssat_word(i: Insn) -> u32
+    ensures { λ r. ⌜ r ≡ W.ssatWord i % 2 ^ 32 ⌝ }
+{
+    sat_laid(5, less(number_at(i, 1)), i)
+}
+
+fn usat_word(i: Insn) -> u32
+    ensures { λ r. ⌜ r ≡ W.usatWord i % 2 ^ 32 ⌝ }
+{
+    sat_laid(7, number_at(i, 1), i)
 }
 
 pub fn media_word(i: Insn) -> u32

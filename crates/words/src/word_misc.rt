@@ -1,67 +1,63 @@
 //! The word of a control instruction, from its answer.
-use crate::join::Join;
-use crate::parts::number_at;
-use crate::parts::register_at;
 use insn::Insn;
 use insn::name;
+use parts::read::amount_at;
+use parts::read::cond;
+use parts::read::how_at;
+use parts::read::number_at;
+use parts::read::register_at;
+use word::join;
 ghost use mathlib.Core.Path.{_≡_};
 ghost use Prim.Native.Nat.{_/_, _%_, _^_};
-ghost use Rattle.home.specs.Parts as P;
+ghost use Rattle.parts.specs.Parts as P;
 ghost use Rattle.home.specs.WordMisc as W;
+
+/// rm 000 0 0 0 00 rd mask 0 m r 10 000 cond, from bit 0 up.
+const STATUS: [u64; 14] = [4, 3, 1, 1, 1, 2, 4, 4, 1, 1, 1, 2, 3, 4];
 
 /// A status register read or written, by the mask.
 fn status(i: Insn, rm: u64, rd: u64, mask: u64, m: u64, r: u64) -> u32
     ensures { λ w. ⌜ w ≡ W.status i rm rd mask m r % 2 ^ 32 ⌝ }
 {
-    Join::new(i)
-        .field(3, 0)
-        .field(2, 2)
-        .field(1, r)
-        .field(1, m)
-        .field(1, 0)
-        .field(4, mask)
-        .field(4, rd)
-        .field(2, 0)
-        .field(1, 0)
-        .field(1, 0)
-        .field(1, 0)
-        .field(3, 0)
-        .field(4, rm)
-        .word()
+    join(
+        &STATUS,
+        &[rm, 0, 0, 0, 0, 0, rd, mask, 0, m, r, 2, 0, cond(i)],
+    )
 }
+
+/// rm kind 0 19:8 0 op 10 000 cond, from bit 0 up.
+const SINGLE: [u64; 9] = [4, 3, 1, 12, 1, 2, 2, 3, 4];
 
 /// With 19:8 whole.
 fn single(i: Insn, rm: u64, kind: u64, upper: u64) -> u32
     ensures { λ r. ⌜ r ≡ W.single i rm kind upper % 2 ^ 32 ⌝ }
 {
-    Join::new(i)
-        .field(3, 0)
-        .field(2, 2)
-        .field(2, 1)
-        .field(1, 0)
-        .field(12, upper)
-        .field(1, 0)
-        .field(3, kind)
-        .field(4, rm)
-        .word()
+    join(&SINGLE, &[rm, kind, 0, upper, 0, 1, 2, 0, cond(i)])
 }
+
+/// rm kind 0 0000 rd rn 0 op 10 000 cond, from bit 0 up.
+const SEVERAL: [u64; 11] = [4, 3, 1, 4, 4, 4, 1, 2, 2, 3, 4];
 
 /// With Rd and Rm at places 0 and 1.
 fn several(i: Insn, kind: u64, rn: u64, op: u64) -> u32
     ensures { λ r. ⌜ r ≡ W.several i kind rn op % 2 ^ 32 ⌝ }
 {
-    Join::new(i)
-        .field(3, 0)
-        .field(2, 2)
-        .field(2, op)
-        .field(1, 0)
-        .field(4, rn)
-        .field(4, register_at(i, 0))
-        .field(4, 0)
-        .field(1, 0)
-        .field(3, kind)
-        .field(4, register_at(i, 1))
-        .word()
+    join(
+        &SEVERAL,
+        &[
+            register_at(i, 1),
+            kind,
+            0,
+            0,
+            register_at(i, 0),
+            rn,
+            0,
+            op,
+            2,
+            0,
+            cond(i),
+        ],
+    )
 }
 
 fn saturating(i: Insn, op: u64) -> u32
@@ -72,15 +68,15 @@ fn saturating(i: Insn, op: u64) -> u32
 
 /// A mask: bit 22, then 19:16.
 fn masked(i: Insn) -> u32
-    ensures { λ r. ⌜ r ≡ W.status i (P.register (P.place i 1)) 0 (P.number (P.place i 0) % 16) 1 (P.number (P.place i 0) / 16) % 2 ^ 32 ⌝ }
+    ensures { λ r. ⌜ r ≡ W.status i (P.at i 1 .reg) 0 (P.at i 0 .amount % 16) 1 (P.at i 0 .amount / 16) % 2 ^ 32 ⌝ }
 {
-    let mask = number_at(i, 0);
+    let mask = amount_at(i, 0);
     status(i, register_at(i, 1), 0, mask % 16, 1, mask / 16)
 }
 
 /// A number: 19:8, then 3:0.
 fn numbered(i: Insn) -> u32
-    ensures { λ r. ⌜ r ≡ W.single i (P.number (P.place i 0) % 16) 7 (P.number (P.place i 0) / 16) % 2 ^ 32 ⌝ }
+    ensures { λ r. ⌜ r ≡ W.single i (P.number (P.at i 0) % 16) 7 (P.number (P.at i 0) / 16) % 2 ^ 32 ⌝ }
 {
     let n = number_at(i, 0);
     single(i, n % 16, 7, n / 16)
@@ -91,7 +87,7 @@ pub fn misc_word(i: Insn) -> u32
 {
     let n = i.name;
     match n {
-        name::MRS => status(i, 0, register_at(i, 0), 0, 0, number_at(i, 1)),
+        name::MRS => status(i, 0, register_at(i, 0), 0, 0, how_at(i, 1)),
         name::MSR => masked(i),
         name::BX => single(i, register_at(i, 0), 1, 0),
         name::CLZ => several(i, 1, 0, 3),

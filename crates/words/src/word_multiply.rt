@@ -1,29 +1,21 @@
 //! The word of a multiply, from its answer.
-use crate::join::Join;
-use crate::parts::register_at;
 use insn::Insn;
 use insn::name;
+use parts::read::cond;
+use parts::read::register_at;
+use word::join;
 ghost use mathlib.Core.Path.{_≡_};
 ghost use Prim.Native.Nat.{_%_, _^_};
 ghost use Rattle.home.specs.WordMultiply as M;
+
+/// rm 1 00 1 rs rd rn s op 0 000 cond, from bit 0 up.
+const LAYOUT: [u64; 12] = [4, 1, 2, 1, 4, 4, 4, 1, 3, 1, 3, 4];
 
 /// The word with these registers at 3:0, 11:8, 15:12 and 19:16.
 fn laid(i: Insn, rm: u64, rs: u64, rd: u64, rn: u64, s: u64, op: u64) -> u32
     ensures { λ r. ⌜ r ≡ M.laid i rm rs rd rn s op % 2 ^ 32 ⌝ }
 {
-    Join::new(i)
-        .field(3, 0)
-        .field(1, 0)
-        .field(3, op)
-        .field(1, s)
-        .field(4, rn)
-        .field(4, rd)
-        .field(4, rs)
-        .field(1, 1)
-        .field(2, 0)
-        .field(1, 1)
-        .field(4, rm)
-        .word()
+    join(&LAYOUT, &[rm, 1, 0, 1, rs, rd, rn, s, op, 0, 0, cond(i)])
 }
 
 fn short(i: Insn, s: u64, op: u64) -> u32

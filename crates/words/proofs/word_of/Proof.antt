@@ -1,9 +1,10 @@
--- `words::word_of` meets its contract. Assumes nothing.
+-- `words::word_of` meets its contract: its tests are those of the groups' names. Assumes nothing.
 use borrow.Author.Needs.{needs}
-use borrow.Author.Tests.{le-leb, lt-leb}
-use mathlib.Core.Path.{ap, sym, _∙_}
-use Prim.Native.Nat.{ℕ, _%_, _^_}
-use Rattle.words.proofs.Chosen.{is-address, is-dp, is-status, is-extra, is-wide, is-ldst, is-media, is-block, is-preload}
+use mathlib.Core.Path.{sym, _∙_}
+use native.Mathlib.Nat.{le-refl}
+use native.Mathlib.Omega.{arith}
+use Rattle.home.proofs.Ways.{between, named-address, named-dp, named-status, named-extra, named-wide, named-ldst, named-media, named-block, named-preload}
+use Rattle.words.proofs.Chosen.{by}
 use Rattle.words.proofs.word_of.Statement.{statement}
 use Rattle.words.proofs.word_of.Tie as tie
 
@@ -14,91 +15,55 @@ address-word-requires : tie.Need-address-word-requires
 address-word-requires c κs = search needs
 
 returns : tie.Need-returns
-returns c =
-    c .address-word .ensures
-    ∙ ap
-    (λ (n : ℕ). n % 2 ^ 32)
-    (sym (is-address (c .before .before .before .args .i) (sym (c .before .before .is-at .ensures) ∙ c .before .if1 .taken)))
+returns c = by (c .address-word .ensures) (named-address _ (sym (c .before .before .is-at .ensures) ∙ c .before .if1 .taken))
 
 dp-word-requires : tie.Need-dp-word-requires
 dp-word-requires c κs = search needs
 
 returns-2 : tie.Need-returns-2
-returns-2 c =
-    c .dp-word .ensures
-    ∙ ap
-    (λ (n : ℕ). n % 2 ^ 32)
-    (sym (is-dp (c .before .before .before .before .args .i) (sym (c .before .before .before .is-at .ensures) ∙ c .before .before .if1 .left) (le-leb _ _ (c .before .if2 .taken))))
+returns-2 c = by (c .dp-word .ensures) (named-dp (c .before .before .before .before .args .i) (sym (c .before .before .before .is-at .ensures) ∙ c .before .before .if1 .left) (between 0 37 (c .before .before .before .before .args .i .name) (omega arith) (omega arith)))
 
 status-word-requires : tie.Need-status-word-requires
 status-word-requires c κs = search needs
 
 returns-3 : tie.Need-returns-3
-returns-3 c =
-    c .status-word .ensures
-    ∙ ap
-    (λ (n : ℕ). n % 2 ^ 32)
-    (sym (is-status (c .before .before .before .before .before .args .i) (sym (c .before .before .before .before .is-at .ensures) ∙ c .before .before .before .if1 .left) (lt-leb _ _ (c .before .before .if2 .left)) (le-leb _ _ (c .before .if3 .taken))))
+returns-3 c = by (c .status-word .ensures) (named-status (c .before .before .before .before .before .args .i) (sym (c .before .before .before .before .is-at .ensures) ∙ c .before .before .before .if1 .left) (between 38 48 (c .before .before .before .before .before .args .i .name) (omega arith) (omega arith)))
 
 extra-word-requires : tie.Need-extra-word-requires
 extra-word-requires c κs = search needs
 
 returns-4 : tie.Need-returns-4
-returns-4 c =
-    c .extra-word .ensures
-    ∙ ap
-    (λ (n : ℕ). n % 2 ^ 32)
-    (sym (is-extra (c .before .before .before .before .before .before .args .i) (sym (c .before .before .before .before .before .is-at .ensures) ∙ c .before .before .before .before .if1 .left) (lt-leb _ _ (c .before .before .before .if2 .left)) (lt-leb _ _ (c .before .before .if3 .left)) (le-leb _ _ (c .before .if4 .taken))))
+returns-4 c = by (c .extra-word .ensures) (named-extra (c .before .before .before .before .before .before .args .i) (sym (c .before .before .before .before .before .is-at .ensures) ∙ c .before .before .before .before .if1 .left) (between 49 74 (c .before .before .before .before .before .before .args .i .name) (omega arith) (omega arith)))
 
 wide-word-requires : tie.Need-wide-word-requires
 wide-word-requires c κs = search needs
 
 returns-5 : tie.Need-returns-5
-returns-5 c =
-    c .wide-word .ensures
-    ∙ ap
-    (λ (n : ℕ). n % 2 ^ 32)
-    (sym (is-wide (c .before .before .before .before .before .before .before .args .i) (sym (c .before .before .before .before .before .before .is-at .ensures) ∙ c .before .before .before .before .before .if1 .left) (lt-leb _ _ (c .before .before .before .before .if2 .left)) (lt-leb _ _ (c .before .before .before .if3 .left)) (lt-leb _ _ (c .before .before .if4 .left)) (le-leb _ _ (c .before .if5 .taken))))
+returns-5 c = by (c .wide-word .ensures) (named-wide (c .before .before .before .before .before .before .before .args .i) (sym (c .before .before .before .before .before .before .is-at .ensures) ∙ c .before .before .before .before .before .if1 .left) (between 75 81 (c .before .before .before .before .before .before .before .args .i .name) (omega arith) (omega arith)))
 
 ldst-word-requires : tie.Need-ldst-word-requires
 ldst-word-requires c κs = search needs
 
 returns-6 : tie.Need-returns-6
-returns-6 c =
-    c .ldst-word .ensures
-    ∙ ap
-    (λ (n : ℕ). n % 2 ^ 32)
-    (sym (is-ldst (c .before .before .before .before .before .before .before .before .args .i) (sym (c .before .before .before .before .before .before .before .is-at .ensures) ∙ c .before .before .before .before .before .before .if1 .left) (lt-leb _ _ (c .before .before .before .before .before .if2 .left)) (lt-leb _ _ (c .before .before .before .before .if3 .left)) (lt-leb _ _ (c .before .before .before .if4 .left)) (lt-leb _ _ (c .before .before .if5 .left)) (le-leb _ _ (c .before .if6 .taken))))
+returns-6 c = by (c .ldst-word .ensures) (named-ldst (c .before .before .before .before .before .before .before .before .args .i) (sym (c .before .before .before .before .before .before .before .is-at .ensures) ∙ c .before .before .before .before .before .before .if1 .left) (between 82 89 (c .before .before .before .before .before .before .before .before .args .i .name) (omega arith) (omega arith)))
 
 media-word-requires : tie.Need-media-word-requires
 media-word-requires c κs = search needs
 
 returns-7 : tie.Need-returns-7
-returns-7 c =
-    c .media-word .ensures
-    ∙ ap
-    (λ (n : ℕ). n % 2 ^ 32)
-    (sym (is-media (c .before .before .before .before .before .before .before .before .before .args .i) (sym (c .before .before .before .before .before .before .before .before .is-at .ensures) ∙ c .before .before .before .before .before .before .before .if1 .left) (lt-leb _ _ (c .before .before .before .before .before .before .if2 .left)) (lt-leb _ _ (c .before .before .before .before .before .if3 .left)) (lt-leb _ _ (c .before .before .before .before .if4 .left)) (lt-leb _ _ (c .before .before .before .if5 .left)) (lt-leb _ _ (c .before .before .if6 .left)) (le-leb _ _ (c .before .if7 .taken))))
+returns-7 c = by (c .media-word .ensures) (named-media (c .before .before .before .before .before .before .before .before .before .args .i) (sym (c .before .before .before .before .before .before .before .before .is-at .ensures) ∙ c .before .before .before .before .before .before .before .if1 .left) (between 90 114 (c .before .before .before .before .before .before .before .before .before .args .i .name) (omega arith) (omega arith)))
 
 block-word-requires : tie.Need-block-word-requires
 block-word-requires c κs = search needs
 
 returns-8 : tie.Need-returns-8
-returns-8 c =
-    c .block-word .ensures
-    ∙ ap
-    (λ (n : ℕ). n % 2 ^ 32)
-    (sym (is-block (c .before .before .before .before .before .before .before .before .before .before .args .i) (sym (c .before .before .before .before .before .before .before .before .before .is-at .ensures) ∙ c .before .before .before .before .before .before .before .before .if1 .left) (lt-leb _ _ (c .before .before .before .before .before .before .before .if2 .left)) (lt-leb _ _ (c .before .before .before .before .before .before .if3 .left)) (lt-leb _ _ (c .before .before .before .before .before .if4 .left)) (lt-leb _ _ (c .before .before .before .before .if5 .left)) (lt-leb _ _ (c .before .before .before .if6 .left)) (lt-leb _ _ (c .before .before .if7 .left)) (le-leb _ _ (c .before .if8 .taken))))
+returns-8 c = by (c .block-word .ensures) (named-block (c .before .before .before .before .before .before .before .before .before .before .args .i) (sym (c .before .before .before .before .before .before .before .before .before .is-at .ensures) ∙ c .before .before .before .before .before .before .before .before .if1 .left) (between 115 124 (c .before .before .before .before .before .before .before .before .before .before .args .i .name) (omega arith) (omega arith)))
 
 preload-word-requires : tie.Need-preload-word-requires
 preload-word-requires c κs = search needs
 
 returns-9 : tie.Need-returns-9
-returns-9 c =
-    c .preload-word .ensures
-    ∙ ap
-    (λ (n : ℕ). n % 2 ^ 32)
-    (sym (is-preload (c .before .before .before .before .before .before .before .before .before .before .args .i) (sym (c .before .before .before .before .before .before .before .before .before .is-at .ensures) ∙ c .before .before .before .before .before .before .before .before .if1 .left) (lt-leb _ _ (c .before .before .before .before .before .before .before .if2 .left)) (lt-leb _ _ (c .before .before .before .before .before .before .if3 .left)) (lt-leb _ _ (c .before .before .before .before .before .if4 .left)) (lt-leb _ _ (c .before .before .before .before .if5 .left)) (lt-leb _ _ (c .before .before .before .if6 .left)) (lt-leb _ _ (c .before .before .if7 .left)) (lt-leb _ _ (c .before .if8 .left))))
+returns-9 c = by (c .preload-word .ensures) (named-preload (c .before .before .before .before .before .before .before .before .before .before .args .i) (sym (c .before .before .before .before .before .before .before .before .before .is-at .ensures) ∙ c .before .before .before .before .before .before .before .before .if1 .left) _ (between 125 _ (c .before .before .before .before .before .before .before .before .before .before .args .i .name) (omega arith) (le-refl _)))
 
 pub word-of-spec : {M : Type 1} → statement M
 word-of-spec =

@@ -58,14 +58,7 @@ shift-word-requires-4 : tie.Need-shift-word-requires-4
 shift-word-requires-4 c κs = search needs
 
 returns-4 : tie.Need-returns-4
-returns-4 c =
-    simp (
-      c .shift-word3 .ensures,
-      c .before .if4 .taken,
-      le-ltb _ _ (c .before .before .if3 .left),
-      le-ltb _ _ (c .before .before .before .if2 .left),
-      le-ltb _ _ (c .before .before .before .before .if1 .left),
-    )
+returns-4 c = simp (c .shift-word3 .ensures, c .before .if4 .taken)
 
 returns-5 : tie.Need-returns-5
 returns-5 c =

@@ -1,84 +1,55 @@
 -- `words::word_dp::msr_immediate_word` meets its contract. Assumes nothing.
 use borrow.Author.Needs.{needs}
 use native.Mathlib.Nat.{add-mod-mod}
-use Rattle.words.proofs.Joins.{fits}
 use Rattle.words.proofs.word_dp.msr_immediate_word.Statement.{statement}
 use Rattle.words.proofs.word_dp.msr_immediate_word.Tie as tie
 
-number-at-requires : tie.Need-number-at-requires
-number-at-requires c κs = search needs
+amount-at-requires : tie.Need-amount-at-requires
+amount-at-requires c κs = search needs
 
-new-requires : tie.Need-new-requires
-new-requires c κs = search needs
+slice-aggregate-join : tie.Need-slice-aggregate-join
+slice-aggregate-join c = search needs
 
-field-requires : tie.Need-field-requires
-field-requires c κs = search needs
+at-requires : tie.Need-at-requires
+at-requires c κs = search needs
 
-field-requires-2 : tie.Need-field-requires-2
-field-requires-2 c κs = search needs
-
-field-requires-3 : tie.Need-field-requires-3
-field-requires-3 c κs = search needs
-
-field-requires-4 : tie.Need-field-requires-4
-field-requires-4 c κs = search needs
-
-field-requires-5 : tie.Need-field-requires-5
-field-requires-5 c κs = search needs
-
-field-requires-6 : tie.Need-field-requires-6
-field-requires-6 c κs = search needs
-
-place-requires : tie.Need-place-requires
-place-requires c κs = search needs
-
-place-requires-2 : tie.Need-place-requires-2
-place-requires-2 c κs = search needs
+at-requires-2 : tie.Need-at-requires-2
+at-requires-2 c κs = search needs
 
 imm12-requires : tie.Need-imm12-requires
 imm12-requires c κs = search needs
 
-field-requires-7 : tie.Need-field-requires-7
-field-requires-7 c κs = search needs
+cond-requires : tie.Need-cond-requires
+cond-requires c κs = search needs
 
-word-requires : tie.Need-word-requires
-word-requires c κs = search needs
+slice-aggregate-join-2 : tie.Need-slice-aggregate-join-2
+slice-aggregate-join-2 c = search needs
+
+join-requires : tie.Need-join-requires
+join-requires c κs = search needs
 
 returns : tie.Need-returns
 returns c =
     simp (
-      c .word .ensures,
-      c .before .field7 .ensures,
-      c .before .before .imm12 .ensures,
-      c .before .before .before .place2 .ensures,
-      c .before .before .before .before .place .ensures,
-      c .before .before .before .before .before .field6 .ensures,
-      c .before .before .before .before .before .before .field5 .ensures,
-      c .before .before .before .before .before .before .before .field4 .ensures,
-      c .before .before .before .before .before .before .before .before .field3 .ensures,
-      c .before .before .before .before .before .before .before .before .before .field2 .ensures,
-      c .before .before .before .before .before .before .before .before .before .before .field .ensures,
-      c .before .before .before .before .before .before .before .before .before .before .before .new .ensures,
-      c .before .before .before .before .before .before .before .before .before .before .before .before .number-at .ensures,
-      fits,
       add-mod-mod,
+      c .join .ensures,
+      c .before .before .cond .ensures,
+      c .before .before .before .imm12 .ensures,
+      c .before .before .before .before .at2 .ensures,
+      c .before .before .before .before .before .at .ensures,
+      c .before .before .before .before .before .before .before .amount-at .ensures,
     )
 
 pub msr-immediate-word-spec : {M : Type 1} → statement M
 msr-immediate-word-spec =
     tie.close
     (tie.spec
-    number-at-requires
-    new-requires
-    field-requires
-    field-requires-2
-    field-requires-3
-    field-requires-4
-    field-requires-5
-    field-requires-6
-    place-requires
-    place-requires-2
+    amount-at-requires
+    slice-aggregate-join
+    at-requires
+    at-requires-2
     imm12-requires
-    field-requires-7
-    word-requires
+    cond-requires
+    slice-aggregate-join-2
+    join-requires
     returns)

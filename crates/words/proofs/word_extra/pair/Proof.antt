@@ -6,14 +6,19 @@ use Rattle.words.proofs.word_extra.pair.Tie as tie
 register-at-requires : tie.Need-register-at-requires
 register-at-requires c κs = search needs
 
-memory-at-requires : tie.Need-memory-at-requires
-memory-at-requires c κs = search needs
+at-requires : tie.Need-at-requires
+at-requires c κs = search needs
 
 transfer-requires : tie.Need-transfer-requires
 transfer-requires c κs = search needs
 
 returns : tie.Need-returns
-returns c = simp (c .transfer .ensures, c .before .memory-at .ensures, c .before .before .register-at .ensures)
+returns c =
+    simp (
+      c .transfer .ensures,
+      c .before .at .ensures,
+      c .before .before .register-at .ensures,
+    )
 
 pub pair-spec : {M : Type 1} → statement M
-pair-spec = tie.close (tie.spec register-at-requires memory-at-requires transfer-requires returns)
+pair-spec = tie.close (tie.spec register-at-requires at-requires transfer-requires returns)

@@ -3,14 +3,14 @@ use borrow.Author.Needs.{needs}
 use Rattle.words.proofs.word_ldst.ldst_word.Statement.{statement}
 use Rattle.words.proofs.word_ldst.ldst_word.Tie as tie
 
-memory-at-requires : tie.Need-memory-at-requires
-memory-at-requires c κs = search needs
+at-requires : tie.Need-at-requires
+at-requires c κs = search needs
 
-by-index-requires : tie.Need-by-index-requires
-by-index-requires c κs = search needs
+laid-requires : tie.Need-laid-requires
+laid-requires c κs = search needs
 
 returns : tie.Need-returns
-returns c = simp (c .by-index .ensures, c .before .memory-at .ensures)
+returns c = simp (c .laid .ensures, c .before .at .ensures)
 
 pub ldst-word-spec : {M : Type 1} → statement M
-ldst-word-spec = tie.close (tie.spec memory-at-requires by-index-requires returns)
+ldst-word-spec = tie.close (tie.spec at-requires laid-requires returns)

@@ -1,49 +1,29 @@
 -- `words::word_media::udf_word` meets its contract. Assumes nothing.
 use borrow.Author.Needs.{needs}
-use Rattle.words.proofs.Joins.{fits}
 use Rattle.words.proofs.word_media.udf_word.Statement.{statement}
 use Rattle.words.proofs.word_media.udf_word.Tie as tie
 
 number-at-requires : tie.Need-number-at-requires
 number-at-requires c κs = search needs
 
-new-requires : tie.Need-new-requires
-new-requires c κs = search needs
+slice-aggregate-join : tie.Need-slice-aggregate-join
+slice-aggregate-join c = search needs
 
-field-requires : tie.Need-field-requires
-field-requires c κs = search needs
+cond-requires : tie.Need-cond-requires
+cond-requires c κs = search needs
 
-field-requires-2 : tie.Need-field-requires-2
-field-requires-2 c κs = search needs
+slice-aggregate-join-2 : tie.Need-slice-aggregate-join-2
+slice-aggregate-join-2 c = search needs
 
-field-requires-3 : tie.Need-field-requires-3
-field-requires-3 c κs = search needs
-
-field-requires-4 : tie.Need-field-requires-4
-field-requires-4 c κs = search needs
-
-field-requires-5 : tie.Need-field-requires-5
-field-requires-5 c κs = search needs
-
-field-requires-6 : tie.Need-field-requires-6
-field-requires-6 c κs = search needs
-
-word-requires : tie.Need-word-requires
-word-requires c κs = search needs
+join-requires : tie.Need-join-requires
+join-requires c κs = search needs
 
 returns : tie.Need-returns
 returns c =
     simp (
-      c .word .ensures,
-      c .before .field6 .ensures,
-      c .before .before .field5 .ensures,
-      c .before .before .before .field4 .ensures,
-      c .before .before .before .before .field3 .ensures,
-      c .before .before .before .before .before .field2 .ensures,
-      c .before .before .before .before .before .before .field .ensures,
-      c .before .before .before .before .before .before .before .new .ensures,
-      c .before .before .before .before .before .before .before .before .number-at .ensures,
-      fits,
+      c .join .ensures,
+      c .before .before .cond .ensures,
+      c .before .before .before .before .number-at .ensures,
     )
 
 pub udf-word-spec : {M : Type 1} → statement M
@@ -51,12 +31,8 @@ udf-word-spec =
     tie.close
     (tie.spec
     number-at-requires
-    new-requires
-    field-requires
-    field-requires-2
-    field-requires-3
-    field-requires-4
-    field-requires-5
-    field-requires-6
-    word-requires
+    slice-aggregate-join
+    cond-requires
+    slice-aggregate-join-2
+    join-requires
     returns)

@@ -3,8 +3,8 @@ use borrow.Author.Needs.{needs}
 use Rattle.words.proofs.word_misc.masked.Statement.{statement}
 use Rattle.words.proofs.word_misc.masked.Tie as tie
 
-number-at-requires : tie.Need-number-at-requires
-number-at-requires c κs = search needs
+amount-at-requires : tie.Need-amount-at-requires
+amount-at-requires c κs = search needs
 
 register-at-requires : tie.Need-register-at-requires
 register-at-requires c κs = search needs
@@ -13,7 +13,12 @@ status-requires : tie.Need-status-requires
 status-requires c κs = search needs
 
 returns : tie.Need-returns
-returns c = simp (c .status .ensures, c .before .register-at .ensures, c .before .before .number-at .ensures)
+returns c =
+    simp (
+      c .status .ensures,
+      c .before .register-at .ensures,
+      c .before .before .amount-at .ensures,
+    )
 
 pub masked-spec : {M : Type 1} → statement M
-masked-spec = tie.close (tie.spec number-at-requires register-at-requires status-requires returns)
+masked-spec = tie.close (tie.spec amount-at-requires register-at-requires status-requires returns)

@@ -7,8 +7,8 @@ use Rattle.words.proofs.word_misc.misc_word.Tie as tie
 register-at-requires : tie.Need-register-at-requires
 register-at-requires c κs = search needs
 
-number-at-requires : tie.Need-number-at-requires
-number-at-requires c κs = search needs
+how-at-requires : tie.Need-how-at-requires
+how-at-requires c κs = search needs
 
 status-requires : tie.Need-status-requires
 status-requires c κs = search needs
@@ -56,7 +56,7 @@ returns : tie.Need-returns
 returns c =
     simp (
       c .status .ensures,
-      c .before .number-at .ensures,
+      c .before .how-at .ensures,
       c .before .before .register-at .ensures,
       c .before .before .before .match .keys1,
     )
@@ -109,7 +109,7 @@ misc-word-spec =
     tie.close
     (tie.spec
     register-at-requires
-    number-at-requires
+    how-at-requires
     status-requires
     masked-requires
     register-at-requires-2
