@@ -23,19 +23,19 @@ use Rattle.spelling.proofs.Cut.{all-cat, isnt, pieces, cut, uncut}
 use Rattle.spelling.proofs.Formed.{Laid, Formed, Aimed, unconditional, targetIn}
 use Rattle.spelling.proofs.Names.{nameFrom, conditionFrom, spelled, name-back, condition-back}
 use Rattle.spelling.proofs.Spaced.{spaced, insn-text}
-use Rattle.spelling.proofs.Tables.{passes, find, found, flow-few}
+use Rattle.spelling.proofs.Tables.{every-passes, find, found, flow-few}
 use Rattle.spelling.proofs.Clean.{free, decimal-free, operand-free}
 use Rattle.spelling.proofs.Read.{operandFrom, operand-back}
 
 flow-free : (flow : Flow) → free (flowOf flow) ≡ true
 unfolding flowOf
-flow-free flow = passes (λ n. free (entry flows n)) 8 tt (flowNumber flow) (flow-few flow)
+flow-free flow = every-passes (λ n. free (entry flows n)) 8 tt (flowNumber flow) (flow-few flow)
 
 name-free : (n : ℕ) (c : Cond) → n < 129 → c .0 < 16 → free (nameOf n c) ≡ true
 unfolding nameOf
 name-free n c h k =
     all-cat (isnt (code " ")) (entry roots n) (entry suffixes (c .0))
-    ∙ rw (passes (λ n. free (entry roots n)) 129 tt n h, passes (λ n. free (entry suffixes n)) 16 tt (c .0) k)
+    ∙ rw (every-passes (λ n. free (entry roots n)) 129 tt n h, every-passes (λ n. free (entry suffixes n)) 16 tt (c .0) k)
 
 -- the words of a text after the name: the operands, and the flow
 abbrev wordsOf : List Operand → List ℕ → List (List ℕ)

@@ -7,7 +7,7 @@ use Prim.Native.Char.{code}
 use borrow.Author.Tests.{eqb-true}
 use lib.Dec.{T, T-not, eqb}
 use lib.IntN.{ℤ}
-use Rattle.word.specs.Choice.{by-test}
+use Rattle.word.specs.Choice.{by-test, parts, passes}
 use Rattle.text.specs.Text.{bytes, decimalOf, signedOf, hexOf}
 use Rattle.insn.specs.Numbers.{shiftNumber}
 use Rattle.insn.specs.declared.AddrMode.{AddrMode}
@@ -24,8 +24,8 @@ use Rattle.spelling.specs.Names.{masks, registers, shifts, entry}
 use Rattle.spelling.specs.Line.{registerOf, shiftOf, indexOf, displacementOf, modeOf, memoryOf, operandOf}
 use Rattle.spelling.proofs.Cut.{all, all-cat, isnt, lacks, pieces, cut, uncut}
 use Rattle.spelling.proofs.Digits.{first, decimal-all, signed-all, hex-all}
-use Rattle.spelling.proofs.Formed.{Held, Indexed, parts, T-true, Sound}
-use Rattle.spelling.proofs.Tables.{passes, shift-few}
+use Rattle.spelling.proofs.Formed.{Held, Indexed, Sound}
+use Rattle.spelling.proofs.Tables.{every-passes, shift-few}
 
 -- the bytes that cut a text or begin an operand, and those that do not
 abbrev pub marks : List ℕ
@@ -71,15 +71,15 @@ word-clean (x ∷ a) h = h
 
 pub register-word : (r : Reg) → r .0 < 16 → isWord (registerOf r) ≡ true
 unfolding registerOf plain
-register-word r h = passes (λ n. isWord (entry registers n)) 16 tt (r .0) h
+register-word r h = every-passes (λ n. isWord (entry registers n)) 16 tt (r .0) h
 
 pub mask-word : (n : ℕ) → n < 32 → isWord (entry masks n) ≡ true
 unfolding plain
-mask-word = passes (λ n. isWord (entry masks n)) 32 tt
+mask-word = every-passes (λ n. isWord (entry masks n)) 32 tt
 
 pub shift-word : (kind : Shift) → isWord (shiftOf kind) ≡ true
 unfolding shiftOf plain
-shift-word kind = passes (λ n. isWord (entry shifts n)) 4 tt (shiftNumber kind) (shift-few kind)
+shift-word kind = every-passes (λ n. isWord (entry shifts n)) 4 tt (shiftNumber kind) (shift-few kind)
 
 pub register-clean : (r : Reg) → r .0 < 16 → clean (registerOf r) ≡ true
 register-clean r h = word-clean (registerOf r) (register-word r h)
@@ -116,7 +116,7 @@ pub index-lacks : (s : ℕ) → T (not (lacks s marks)) → T (isnt s (code "<")
 unfolding indexOf plain
 index-lacks s mark other Absent h = clean-lacks s mark (bytes "-") refl
 index-lacks s mark other (Left r n) h =
-    simp (all-cat, clean-lacks s mark (registerOf r) (register-clean r (h .0)), T-true (isnt s (code "<")) other, clean-lacks s mark (decimalOf n) (decimal-clean n))
+    simp (all-cat, clean-lacks s mark (registerOf r) (register-clean r (h .0)), passes (isnt s (code "<")) other, clean-lacks s mark (decimalOf n) (decimal-clean n))
 
 -- no operand holds a space
 abbrev pub free : List ℕ → Bool

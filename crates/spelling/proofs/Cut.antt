@@ -5,8 +5,7 @@ use mathlib.Core.List.{List, [], _∷_, _++_}
 use Prim.Native.Nat.{ℕ}
 use borrow.Author.Tests.{eq-eqb, not-true}
 use lib.Dec.{eqb}
-use Rattle.word.specs.Choice.{pick, both, by-test}
-use Rattle.spelling.proofs.Formed.{parts}
+use Rattle.word.specs.Choice.{pick, both, by-test, parts}
 
 -- every byte of a text passes a test
 abbrev pub all : (ℕ → Bool) → List ℕ → Bool

@@ -10,13 +10,13 @@ use borrow.Author.Tests.{ltb-true, ltb-false, not-true}
 use lib.Dec.{T, eqb, ltb, eqb·suc-zero, lit<}
 use lib.IntN.{ℤ, pos, negsuc, natAbs}
 use lib.ListN.{length, getD, drop, length-append}
-use Rattle.word.specs.Choice.{pick, both}
+use Rattle.word.specs.Choice.{pick, both, inside, tested, parts, passes}
 use Rattle.word.specs.Every.{every}
 use Rattle.word.specs.Signed.{minus}
 use Rattle.text.specs.Text.{digitsOf, decimalOf, signedOf, hexOf, hexDigit}
 use Rattle.spelling.proofs.Cut.{all, all-cat, isnt, lacks}
-use Rattle.spelling.proofs.Formed.{inside, parts, T-true, tested, either}
-use Rattle.spelling.proofs.Tables.{passes, agrees}
+use Rattle.spelling.proofs.Formed.{either}
+use Rattle.spelling.proofs.Tables.{every-passes, agrees}
 
 -- a number below base ^ suc k has its upper digits below base ^ k
 pub upper : (base k n : ℕ) → 0 < base → n < base ^ suc k → n / base < base ^ k
@@ -87,7 +87,7 @@ hex-back (suc k) n h =
 module _ (f : ℕ → Bool) where
   module _ (t : T (every (λ d. f (48 + d)) 0 10)) where
     digit : (d : ℕ) → d < 10 → f (48 + d) ≡ true
-    digit = passes (λ d. f (48 + d)) 10 t
+    digit = every-passes (λ d. f (48 + d)) 10 t
 
     digits-all : (k n : ℕ) → all f (digitsOf k n) ≡ true
     digits-all zero n = refl
@@ -103,13 +103,13 @@ module _ (f : ℕ → Bool) where
     pub signed-all : (z : ℤ) → T (f (code "-")) → all f (signedOf z) ≡ true
     unfolding signedOf
     signed-all (pos n) minus = decimal-all n
-    signed-all (negsuc n) minus = rw (T-true (f (code "-")) minus) (decimal-all (suc n))
+    signed-all (negsuc n) minus = rw (passes (f (code "-")) minus) (decimal-all (suc n))
 
   pub hex-all : T (every (λ d. f (hexDigit d)) 0 16) → (k n : ℕ) → all f (hexOf k n) ≡ true
   unfolding hexOf
   hex-all t zero n = refl
   hex-all t (suc k) n =
-      simp (all-cat, hex-all t k (n / 16), passes (λ d. f (hexDigit d)) 16 t (n % 16) (mod-lt n (lit< tt)))
+      simp (all-cat, hex-all t k (n / 16), every-passes (λ d. f (hexDigit d)) 16 t (n % 16) (mod-lt n (lit< tt)))
 
 pub decimal-digits : (n : ℕ) → all (inside 48 57) (decimalOf n) ≡ true
 decimal-digits = decimal-all (inside 48 57) tt

@@ -9,7 +9,7 @@ use borrow.Author.Tests.{eqb-true}
 use lib.Dec.{eqb, lit≤}
 use lib.IntN.{natAbs}
 use lib.ListN.{length, length-append}
-use Rattle.word.specs.Choice.{pick}
+use Rattle.word.specs.Choice.{pick, tested}
 use Rattle.insn.specs.Numbers.{shiftNumber, flowNumber}
 use Rattle.insn.specs.declared.AddrMode.{AddrMode}
 use Rattle.insn.specs.declared.AddrMode.the-variants.{Offset, PreIndex, PostIndex}
@@ -29,7 +29,7 @@ use Rattle.a32.specs.Decode.{decodeOf}
 use Rattle.spelling.specs.Names.{roots, suffixes, masks, shifts, registers, flows}
 use Rattle.spelling.specs.Line.{nameOf, registerOf, shiftOf, indexOf, displacementOf, modeOf, memoryOf, operandOf, flowOf, insnText, refusedText, answerText, lineText, lineOf}
 use Rattle.spelling.proofs.Digits.{decimal-length, signed-length, hex-length}
-use Rattle.spelling.proofs.Formed.{Sound, Laid, Held, Indexed, Formed, Good, either, tested}
+use Rattle.spelling.proofs.Formed.{Sound, Laid, Held, Indexed, Formed, Good, either}
 use Rattle.spelling.proofs.FormedAll.{all-good}
 use Rattle.spelling.proofs.Spaced.{spaced, insn-text}
 use Rattle.spelling.proofs.Tables.{at-most, shift-few, flow-few}

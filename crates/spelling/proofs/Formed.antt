@@ -1,5 +1,5 @@
 -- What holds of every accepted answer, as far as its text depends on it, and the laws by which the groups' rows are gone through. Assumes nothing.
-use mathlib.Core.Path.{_≡_, refl, sym, _∙_, subst}
+use mathlib.Core.Path.{_≡_, refl, sym, _∙_}
 use mathlib.Core.Bool.{Bool, true, false, not}
 use mathlib.Core.List.{List, [], _∷_}
 use Prim.Native.Nat.{ℕ, _^_, _<_, _≤_}
@@ -8,7 +8,7 @@ use borrow.Author.Tests.{ltb-true, not-true, lt-leb}
 use lib.Dec.{T, eqb, leb, ltb, ltb→lt, lt→ltb, lit<, lit≤}
 use lib.IntN.{pos, natAbs}
 use lib.ListN.{length}
-use Rattle.word.specs.Choice.{pick, both}
+use Rattle.word.specs.Choice.{pick, both, inside, tested, parts, passes}
 use Rattle.word.specs.Field.{field, small}
 use Rattle.insn.specs.Answer.{places, refused}
 use Rattle.insn.specs.Name.{BKPT, BLX, STRH, LDRSH, MOVT, MOVW, LDR, STRBT, UDF, UBFX, PLD}
@@ -25,10 +25,6 @@ use Rattle.insn.specs.declared.Operand.{Operand}
 use Rattle.insn.specs.declared.Operand.the-variants.{Empty, Register, Shifted, ShiftBy, SaturateShift, Rotate, Count, Number, StatusMask, StatusSource, WriteBack, List as RegisterList, Address, Memory}
 use Rattle.arm.specs.Row.{answer, noRow}
 use Rattle.ldst.specs.Mem.{isPost}
-
--- a name from lo to hi
-abbrev pub inside : ℕ → ℕ → ℕ → Bool
-inside lo hi n = both (leb lo n) (leb n hi)
 
 -- the names with a bit pattern: it reads as a count does
 abbrev pub patterned : ℕ → Bool
@@ -125,11 +121,7 @@ pub record Good (addr : ℕ) (d : Decoded) : Type 0 where
   pub empty : (d .refusal ≡ 0 → ⊥) → d ≡ refused (d .refusal)
   pub formed : d .refusal ≡ 0 → Formed addr (d .insn)
 
--- what holds of both values holds of the one that a test picks
-pub tested {ℓ} : {A : Type ℓ} (P : A → Type 0) (b : Bool) {x y : A} → (b ≡ true → P x) → (b ≡ false → P y) → P (pick b x y)
-tested P true p q = p refl
-tested P false p q = q refl
-
+-- what holds of both values holds of the one that a test picks, whatever the test
 pub either {ℓ} : {A : Type ℓ} (P : A → Type 0) (b : Bool) {x y : A} → P x → P y → P (pick b x y)
 either P b p q = tested P b (λ e. p) (λ e. q)
 
@@ -139,14 +131,6 @@ choice b {addr} = either (Good addr) b
 -- a row of a table at a number, and the rows after it
 pub at : (n k : ℕ) {addr : ℕ} {x y : Decoded} → Good addr x → Good addr y → Good addr (pick (eqb n k) x y)
 at n k = choice (eqb n k)
-
-pub parts : (a b : Bool) → both a b ≡ true → (a ≡ true) × (b ≡ true)
-parts true b e = (refl, e)
-parts false b e = absurd (subst (λ (x : Bool). T (not x)) e tt)
-
-pub T-true : (b : Bool) → T b → b ≡ true
-T-true true t = refl
-T-true false t = absurd t
 
 pub good-refusal : {addr : ℕ} (n : ℕ) → T (ltb 0 n) → T (ltb n 10) → Good addr (refused n)
 good-refusal n some few = record { refusal = lit< few; empty = λ some. refl; formed = λ ok. absurd (omega (arith, ltb→lt 0 n some)) }
@@ -171,7 +155,7 @@ by-name w n c t flow =
     (lt→ltb n 129 (omega (arith, below)), c ∙ sym (simp (not-true (eqb n BLX) (tests .1), lt-leb PLD n below)))
   where
     tests : (ltb n PLD ≡ true) × (not (eqb n BLX) ≡ true)
-    tests = parts (ltb n PLD) (not (eqb n BLX)) (T-true (ordinary n) t)
+    tests = parts (ltb n PLD) (not (eqb n BLX)) (passes (ordinary n) t)
 
     below : n < PLD
     below = ltb-true n PLD (tests .0)

@@ -3,9 +3,10 @@ use mathlib.Core.Path.{_≡_}
 use mathlib.Core.Bool.{false}
 use Prim.Native.Nat.{ℕ}
 use lib.Dec.{eqb}
+use Rattle.word.specs.Choice.{tested}
 use Rattle.word.specs.Field.{field}
 use Rattle.a32.specs.Decode.{controlOf, plainOf, extraOf, dpMiscOf, groupOf, decodeOf}
-use Rattle.spelling.proofs.Formed.{Good, tested, choice, at, good-refusal, no-row}
+use Rattle.spelling.proofs.Formed.{Good, choice, at, good-refusal, no-row}
 use Rattle.spelling.proofs.FormedDp.{dp-reg-good, dp-imm-good}
 use Rattle.spelling.proofs.FormedMisc.{misc-good}
 use Rattle.spelling.proofs.FormedMultiply.{multiply-good, sync-good}

@@ -8,7 +8,7 @@ use borrow.Author.Tests.{ltb-false, not-true}
 use lib.Dec.{T, eqb, ltb, lit<}
 use lib.IntN.{natAbs}
 use lib.ListN.{getD}
-use Rattle.word.specs.Choice.{both}
+use Rattle.word.specs.Choice.{both, tested, passes}
 use Rattle.word.specs.Every.{left, right, at-each}
 use Rattle.word.specs.Field.{field, small}
 use Rattle.word.specs.Layout.{joined, joined-small}
@@ -23,7 +23,7 @@ use Rattle.imm.specs.Imm.{immOf, soImmOf, leastOf, countOf, byteOf, rotationOf}
 use Rattle.dp.specs.Names.{plain, setting, dpName, shiftName}
 use Rattle.dp.specs.DpReg.{sourceOf, movFlow, movOf, dpRegOf}
 use Rattle.dp.specs.DpImm.{hintSlot, hintOf, msrOf, toPc, operationOf, dpImmOf}
-use Rattle.spelling.proofs.Formed.{reg, Good, Sound, Aimed, patterned, Under, ordinary, by-name, T-true, tested, either, choice, at, no-row, row0, row2, row3, row4}
+use Rattle.spelling.proofs.Formed.{reg, Good, Sound, Aimed, patterned, Under, ordinary, by-name, either, choice, at, no-row, row0, row2, row3, row4}
 use Rattle.spelling.proofs.FormedLdst.{abs-minus}
 
 -- the names of data processing are ordinary, and have counts
@@ -47,7 +47,7 @@ module _ (w : ℕ) where
 
 module _ (n : ℕ) (t : T (counting n)) where
   signs : patterned n ≡ false
-  signs = not-true (patterned n) (T-true _ (right (ordinary n) (not (patterned n)) t))
+  signs = not-true (patterned n) (passes _ (right (ordinary n) (not (patterned n)) t))
 
   under : (w : ℕ) → eqb (field w 28 4) 15 ≡ false → (flow : Flow) → Under w n flow
   under w c = by-name w n c (left (ordinary n) (not (patterned n)) t)

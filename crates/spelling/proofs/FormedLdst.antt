@@ -6,6 +6,7 @@ use native.Mathlib.Omega.{arith}
 use borrow.Author.Tests.{eqb-true, eqb-false}
 use lib.Dec.{T, eqb, ltb, lit<}
 use lib.IntN.{pos, natAbs}
+use Rattle.word.specs.Choice.{tested, parts}
 use Rattle.word.specs.Field.{field, small}
 use Rattle.word.specs.Layout.{joined-small}
 use Rattle.word.specs.Signed.{minus}
@@ -15,7 +16,7 @@ use Rattle.ldst.specs.Mem.{U, L, isClear, isOffset, unprivilegedOf, modeOf, isP
 use Rattle.ldst.specs.ExtraLdst as X
 use Rattle.ldst.specs.ExtraLdst.{immediate, imm8, subtractedIndexOf, extraLdstOf}
 use Rattle.ldst.specs.Ldst.{B, regForm, refusedIndexOf, markedOf, sizeOf, nameOf, flowOf, memoryOf, ldstOf}
-use Rattle.spelling.proofs.Formed.{reg, Good, Sound, Aimed, decimalFor, Under, ordinary, by-name, parts, tested, either, choice, at, no-row, row2, row3}
+use Rattle.spelling.proofs.Formed.{reg, Good, Sound, Aimed, decimalFor, Under, ordinary, by-name, either, choice, at, no-row, row2, row3}
 
 pub abs-minus : (n : ℕ) → natAbs (minus n) ≡ n
 abs-minus zero = refl

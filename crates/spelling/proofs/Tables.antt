@@ -6,7 +6,7 @@ use Prim.Native.Nat.{ℕ, suc, _<_, _≤_}
 use Prim.Native.String.{String}
 use lib.Dec.{T, eqb, leb, leb→le, eqb→eq, lit<}
 use lib.ListN.{length}
-use Rattle.word.specs.Choice.{pick, both}
+use Rattle.word.specs.Choice.{pick, both, passes}
 use Rattle.word.specs.Every.{every, at-each}
 use Rattle.text.specs.Text.{bytes}
 use Rattle.insn.specs.Numbers.{shiftNumber, flowNumber}
@@ -15,10 +15,9 @@ use Rattle.insn.specs.declared.Flow.the-variants.{Next, Branch, CondBranch, Ind
 use Rattle.insn.specs.declared.Shift.{Shift}
 use Rattle.insn.specs.declared.Shift.the-variants.{Lsl, Lsr, Asr, Ror}
 use Rattle.spelling.specs.Names.{entry}
-use Rattle.spelling.proofs.Formed.{T-true}
 
-pub passes : (f : ℕ → Bool) (count : ℕ) → T (every f 0 count) → (n : ℕ) → n < count → f n ≡ true
-passes f count t n h = T-true (f n) (at-each f count t n h)
+pub every-passes : (f : ℕ → Bool) (count : ℕ) → T (every f 0 count) → (n : ℕ) → n < count → f n ≡ true
+every-passes f count t n h = passes (f n) (at-each f count t n h)
 
 pub agrees : (f g : ℕ → ℕ) (count : ℕ) → T (every (λ n. eqb (f n) (g n)) 0 count) → (n : ℕ) → n < count → f n ≡ g n
 agrees f g count t n h = eqb→eq (f n) (g n) (at-each (λ n. eqb (f n) (g n)) count t n h)
