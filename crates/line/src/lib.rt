@@ -1,13 +1,13 @@
 //! The line of a word in the listing (01, "Section and listing"). A writer puts its text into a lent buffer from place `at` on, and gives
 //! the place after it.
-use crate::names::put_flow;
-use crate::names::put_root;
-use crate::names::put_suffix;
-use crate::operand::put_places;
 use a32::decode;
 use insn::Cond;
 use insn::Decoded;
 use insn::Insn;
+use operands::names::put_flow;
+use operands::names::put_root;
+use operands::names::put_suffix;
+use operands::put_places;
 use text::Written;
 use text::put;
 use text::put_byte;
@@ -19,9 +19,6 @@ ghost use Rattle.text.specs.Text.{hexOf};
 ghost use Rattle.text.specs.Fits.{answerOf, lastOf};
 ghost use Rattle.text.specs.Put.{Room, Put};
 ghost use Rattle.spelling.specs.Line.{nameOf, insnText, refusedText, answerText, lineText, lineOf};
-
-mod names;
-mod operand;
 
 /// No line takes more bytes.
 const MOST: usize = 96;

@@ -1,0 +1,3 @@
+-- Facts of the crate that belong to no one function.
+pub mod Table
+pub mod Unique

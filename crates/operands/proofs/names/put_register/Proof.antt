@@ -1,0 +1,30 @@
+-- `operands::names::put_register` meets its contract: the table has the names. Assumes nothing.
+use borrow.Author.Needs.{needs}
+use native.Mathlib.Omega.{arith}
+use Rattle.spelling.specs.Names.{registers}
+use Rattle.spelling.specs.Line.{registerOf}
+use Rattle.operands.proofs.Table.{spelt}
+use Rattle.operands.proofs.names.put_register.Statement.{statement}
+use Rattle.operands.proofs.names.put_register.Tie as tie
+
+slice-aggregate-put-entry : tie.Need-slice-aggregate-put-entry
+slice-aggregate-put-entry c = search needs
+
+cast-put-entry : tie.Need-cast-put-entry
+cast-put-entry c = search needs
+
+put-entry-requires : tie.Need-put-entry-requires
+unfolding registerOf
+put-entry-requires c κs = (omega arith, rw (spelt 4 registers tt (c .before .before .before .before .args .reg .0)) (c .before .before .before .before .pre))
+
+same-length : tie.Need-same-length
+same-length c = search needs
+
+returns : tie.Need-returns
+unfolding registerOf
+returns c = rw (spelt 4 registers tt (c .before .before .before .before .before .before .before .args .reg .0)) at (c .before .before .put-entry .ensures)
+
+pub put-register-spec : {M : Type 1} → statement M
+put-register-spec =
+    tie.close
+    (tie.spec slice-aggregate-put-entry cast-put-entry put-entry-requires same-length returns)

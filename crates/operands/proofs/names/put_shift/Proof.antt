@@ -1,0 +1,39 @@
+-- `operands::names::put_shift` meets its contract: the table has the names. Assumes nothing.
+use borrow.Author.Needs.{needs}
+use native.Mathlib.Omega.{arith}
+use Rattle.spelling.specs.Names.{shifts}
+use Rattle.spelling.specs.Line.{shiftOf}
+use Rattle.operands.proofs.Table.{spelt}
+use Rattle.operands.proofs.names.put_shift.Statement.{statement}
+use Rattle.operands.proofs.names.put_shift.Tie as tie
+
+slice-aggregate-put-entry : tie.Need-slice-aggregate-put-entry
+slice-aggregate-put-entry c = search needs
+
+number-requires : tie.Need-number-requires
+number-requires c κs = search needs
+
+cast-put-entry : tie.Need-cast-put-entry
+cast-put-entry c = search needs
+
+put-entry-requires : tie.Need-put-entry-requires
+unfolding shiftOf
+put-entry-requires c κs = (omega arith, rw (spelt 4 shifts tt (c .number .result), c .number .ensures) (c .before .before .before .before .pre))
+
+same-length : tie.Need-same-length
+same-length c = search needs
+
+returns : tie.Need-returns
+unfolding shiftOf
+returns c = rw (spelt 4 shifts tt (c .before .before .before .number .result), c .before .before .before .number .ensures) at (c .before .before .put-entry .ensures)
+
+pub put-shift-spec : {M : Type 1} → statement M
+put-shift-spec =
+    tie.close
+    (tie.spec
+    slice-aggregate-put-entry
+    number-requires
+    cast-put-entry
+    put-entry-requires
+    same-length
+    returns)
