@@ -32,7 +32,6 @@ minus-down (suc n) h = refl
 module _ (w : ℕ) where
   -- what a name tells
   name-tells : (loadBit (nameOf w) ≡ field w 20 1) × (byteBit (nameOf w) ≡ field w 22 1) × (userBit (nameOf w) ≡ pick (unprivilegedOf w) 1 0) × (inside 82 89 (nameOf w) ≡ true)
-  unfolding loadBit byteBit userBit
   name-tells =
       by-test (unprivilegedOf w)
       (λ t.

@@ -1,23 +1,23 @@
 -- The word of a load or a store, from its answer.
 use mathlib.Core.List.{List, [], _∷_}
-use Prim.Native.Nat.{ℕ}
+use Prim.Native.Nat.{ℕ, _-_, _/_, _%_}
 use lib.Dec.{eqb}
 use Rattle.word.specs.Choice.{pick}
 use Rattle.word.specs.Layout.{join}
-use Rattle.insn.specs.Name.{LDR, LDRB, STRB, LDRT, LDRBT, STRT, STRBT}
+use Rattle.insn.specs.Name.{LDR}
 use Rattle.insn.specs.declared.Insn.{Insn}
 use Rattle.parts.specs.declared.Flat.{Flat}
 use Rattle.parts.specs.Parts.{at, bitP, bitU, bitW}
 
--- L, B and whether the name is one of the `t` names
-unfoldable pub loadBit : ℕ → ℕ
-loadBit name = pick (eqb name LDR) 1 (pick (eqb name LDRB) 1 (pick (eqb name LDRT) 1 (pick (eqb name LDRBT) 1 0)))
+-- ldr, ldrb, str, strb, and the `t` names in that order: L, B and whether it is one of those
+abbrev pub loadBit : ℕ → ℕ
+loadBit name = 1 - (name - LDR) / 2 % 2
 
-unfoldable pub byteBit : ℕ → ℕ
-byteBit name = pick (eqb name LDRB) 1 (pick (eqb name STRB) 1 (pick (eqb name LDRBT) 1 (pick (eqb name STRBT) 1 0)))
+abbrev pub byteBit : ℕ → ℕ
+byteBit name = (name - LDR) % 2
 
-unfoldable pub userBit : ℕ → ℕ
-userBit name = pick (eqb name LDRT) 1 (pick (eqb name LDRBT) 1 (pick (eqb name STRT) 1 (pick (eqb name STRBT) 1 0)))
+abbrev pub userBit : ℕ → ℕ
+userBit name = (name - LDR) / 4
 
 -- W by the mode or the name
 unfoldable pub writeBit : ℕ → ℕ → ℕ

@@ -1,10 +1,11 @@
 -- The word of a media instruction, from its answer.
 use mathlib.Core.List.{List, [], _∷_}
 use Prim.Native.Nat.{ℕ, _+_, _-_, _*_, _/_, _%_}
-use lib.Dec.{eqb}
+use lib.Dec.{eqb, leb}
+use lib.ListN.{getD}
 use Rattle.word.specs.Choice.{pick}
 use Rattle.word.specs.Layout.{join}
-use Rattle.insn.specs.Name.{UDF, SBFX, UBFX, BFC, BFI, SDIV, UDIV, SSAT, USAT, REV, REV16, RBIT, REVSH, SXTB16, SXTAB16, SXTB, SXTAB, SXTH, SXTAH, UXTB16, UXTAB16, UXTB, UXTAB, UXTH}
+use Rattle.insn.specs.Name.{UDF, SBFX, UBFX, BFC, BFI, SDIV, UDIV, SSAT, USAT, REV, REVSH}
 use Rattle.insn.specs.declared.Insn.{Insn}
 use Rattle.parts.specs.Parts.{at, number}
 
@@ -75,6 +76,20 @@ ssatWord i = satLaid 5 (number (at i 1) - 1) i
 abbrev pub usatWord : Insn → ℕ
 usatWord i = satLaid 7 (number (at i 1)) i
 
+-- 24:20 of the names rev, rev16, rbit, revsh, and sxtb16 .. uxtah
+abbrev pub operations : List ℕ
+operations = 11 ∷ 11 ∷ 15 ∷ 15 ∷ 8 ∷ 8 ∷ 10 ∷ 10 ∷ 11 ∷ 11 ∷ 12 ∷ 12 ∷ 14 ∷ 14 ∷ 15 ∷ 15 ∷ []
+
+-- 7:5 of rev and rbit is 1, and of the others 5; every second extend adds
+abbrev pub reversed : ℕ → Insn → ℕ
+reversed n = revWord (getD operations n 0) (n % 2 * 4 + 1)
+
+abbrev pub extended : ℕ → Insn → ℕ
+extended n = pick (eqb (n % 2) 0) (extendWord (getD operations n 0)) (addExtendWord (getD operations n 0))
+
+abbrev pub moved : ℕ → Insn → ℕ
+moved name = pick (leb name REVSH) (reversed (name - REV)) (extended (name - REV))
+
 -- how a name's words are laid
 unfoldable pub laidAs : ℕ → Insn → ℕ
 laidAs name =
@@ -87,22 +102,7 @@ laidAs name =
     (pick (eqb name UDIV) (divWord 19)
     (pick (eqb name SSAT) ssatWord
     (pick (eqb name USAT) usatWord
-    (pick (eqb name REV) (revWord 11 1)
-    (pick (eqb name REV16) (revWord 11 5)
-    (pick (eqb name RBIT) (revWord 15 1)
-    (pick (eqb name REVSH) (revWord 15 5)
-    (pick (eqb name SXTB16) (extendWord 8)
-    (pick (eqb name SXTAB16) (addExtendWord 8)
-    (pick (eqb name SXTB) (extendWord 10)
-    (pick (eqb name SXTAB) (addExtendWord 10)
-    (pick (eqb name SXTH) (extendWord 11)
-    (pick (eqb name SXTAH) (addExtendWord 11)
-    (pick (eqb name UXTB16) (extendWord 12)
-    (pick (eqb name UXTAB16) (addExtendWord 12)
-    (pick (eqb name UXTB) (extendWord 14)
-    (pick (eqb name UXTAB) (addExtendWord 14)
-    (pick (eqb name UXTH) (extendWord 15)
-    (addExtendWord 15))))))))))))))))))))))))
+    (moved name)))))))))
 
 abbrev pub mediaWord : Insn → ℕ
 mediaWord i = laidAs (i .name) i

@@ -1,10 +1,10 @@
 -- The word of a control instruction, from its answer.
 use mathlib.Core.List.{List, [], _∷_}
-use Prim.Native.Nat.{ℕ, _/_, _%_}
+use Prim.Native.Nat.{ℕ, _-_, _/_, _%_}
 use lib.Dec.{eqb}
 use Rattle.word.specs.Choice.{pick}
 use Rattle.word.specs.Layout.{join}
-use Rattle.insn.specs.Name.{MRS, MSR, BX, CLZ, BXJ, BLX, QADD, QSUB, QDADD, BKPT}
+use Rattle.insn.specs.Name.{MRS, MSR, BX, CLZ, BXJ, BLX, QADD, BKPT}
 use Rattle.insn.specs.declared.Insn.{Insn}
 use Rattle.parts.specs.Parts.{at, number}
 
@@ -43,8 +43,5 @@ miscWord i =
     (pick (eqb (i .name) CLZ) (several i 1 0 3)
     (pick (eqb (i .name) BXJ) (single i (at i 0 .reg) 2 0)
     (pick (eqb (i .name) BLX) (single i (at i 0 .reg) 3 0)
-    (pick (eqb (i .name) QADD) (saturating i 0)
-    (pick (eqb (i .name) QSUB) (saturating i 1)
-    (pick (eqb (i .name) QDADD) (saturating i 2)
     (pick (eqb (i .name) BKPT) (single i (number (at i 0) % 16) 7 (number (at i 0) / 16))
-    (saturating i 3))))))))))
+    (saturating i (i .name - QADD))))))))

@@ -1,40 +1,56 @@
--- The word of a multiply, from its answer.
+-- The word of a multiply or an exclusive, from its answer.
+use mathlib.Core.Bool.{Bool, true}
 use mathlib.Core.List.{List, [], _∷_}
-use Prim.Native.Nat.{ℕ}
-use lib.Dec.{eqb}
+use Prim.Native.Nat.{ℕ, _-_, _%_}
+use lib.Dec.{eqb, leb}
+use lib.ListN.{getD}
 use Rattle.word.specs.Choice.{pick}
 use Rattle.word.specs.Layout.{join}
-use Rattle.insn.specs.Name.{MUL, MULS, MLA, MLAS, UMAAL, MLS, UMULL, UMULLS, UMLAL, UMLALS, SMULL, SMULLS, SMLAL}
+use Rattle.insn.specs.Name.{MULS, STREX}
 use Rattle.insn.specs.declared.Insn.{Insn}
 use Rattle.parts.specs.Parts.{at}
 
--- rm 1 00 1 rs rd rn s op 0 000 cond, from bit 0 up
+-- rm 1 00 1 rs rd rn 23:20 p 000 cond, from bit 0 up
 abbrev pub layout : List ℕ
-layout = 4 ∷ 1 ∷ 2 ∷ 1 ∷ 4 ∷ 4 ∷ 4 ∷ 1 ∷ 3 ∷ 1 ∷ 3 ∷ 4 ∷ []
+layout = 4 ∷ 1 ∷ 2 ∷ 1 ∷ 4 ∷ 4 ∷ 4 ∷ 4 ∷ 1 ∷ 3 ∷ 4 ∷ []
 
 -- the word with these registers at 3:0, 11:8, 15:12 and 19:16
 abbrev pub laid : Insn → ℕ → ℕ → ℕ → ℕ → ℕ → ℕ → ℕ
-laid i rm rs rd rn s op = join layout (rm ∷ 1 ∷ 0 ∷ 1 ∷ rs ∷ rd ∷ rn ∷ s ∷ op ∷ 0 ∷ 0 ∷ i .cond .0 ∷ [])
+laid i rm rs rd rn op p = join layout (rm ∷ 1 ∷ 0 ∷ 1 ∷ rs ∷ rd ∷ rn ∷ op ∷ p ∷ 0 ∷ i .cond .0 ∷ [])
 
-abbrev pub short : Insn → ℕ → ℕ → ℕ
-short i s op = laid i (at i 1 .reg) (at i 2 .reg) (at i 3 .reg) (at i 0 .reg) s op
+abbrev pub short : Insn → ℕ → ℕ
+short i op = laid i (at i 1 .reg) (at i 2 .reg) (at i 3 .reg) (at i 0 .reg) op 0
 
-abbrev pub long : Insn → ℕ → ℕ → ℕ
-long i s op = laid i (at i 2 .reg) (at i 3 .reg) (at i 0 .reg) (at i 1 .reg) s op
+abbrev pub long : Insn → ℕ → ℕ
+long i op = laid i (at i 2 .reg) (at i 3 .reg) (at i 0 .reg) (at i 1 .reg) op 0
+
+-- 23:20 of the names muls .. smlals
+abbrev pub operations : List ℕ
+operations = 1 ∷ 0 ∷ 3 ∷ 2 ∷ 4 ∷ 6 ∷ 8 ∷ 9 ∷ 10 ∷ 11 ∷ 12 ∷ 13 ∷ 14 ∷ 15 ∷ []
+
+-- umaal and the long ones
+abbrev pub isLong : ℕ → Bool
+isLong op = pick (eqb op 4) true (leb 8 op)
+
+abbrev pub multiplied : Insn → ℕ → ℕ
+multiplied i op = pick (isLong op) (long i op) (short i op)
 
 abbrev pub multiplyWord : Insn → ℕ
-multiplyWord i =
-    pick (eqb (i .name) MULS) (short i 1 0)
-    (pick (eqb (i .name) MUL) (short i 0 0)
-    (pick (eqb (i .name) MLAS) (short i 1 1)
-    (pick (eqb (i .name) MLA) (short i 0 1)
-    (pick (eqb (i .name) UMAAL) (long i 0 2)
-    (pick (eqb (i .name) MLS) (short i 0 3)
-    (pick (eqb (i .name) UMULL) (long i 0 4)
-    (pick (eqb (i .name) UMULLS) (long i 1 4)
-    (pick (eqb (i .name) UMLAL) (long i 0 5)
-    (pick (eqb (i .name) UMLALS) (long i 1 5)
-    (pick (eqb (i .name) SMULL) (long i 0 6)
-    (pick (eqb (i .name) SMULLS) (long i 1 6)
-    (pick (eqb (i .name) SMLAL) (long i 0 7)
-    (long i 1 7)))))))))))))
+multiplyWord i = multiplied i (getD operations (i .name - MULS) 0)
+
+-- the exclusives, which load where bit 20 is set
+abbrev pub store : Insn → ℕ → ℕ
+store i op = laid i (at i 1 .reg) 0 (at i 0 .reg) (at i 2 .reg) op 1
+
+abbrev pub load : Insn → ℕ → ℕ
+load i op = laid i 0 0 (at i 0 .reg) (at i 1 .reg) op 1
+
+-- 23:20 of the names strex .. ldrexh
+abbrev pub exclusives : List ℕ
+exclusives = 8 ∷ 9 ∷ 12 ∷ 13 ∷ 14 ∷ 15 ∷ []
+
+abbrev pub excluded : Insn → ℕ → ℕ
+excluded i op = pick (eqb (op % 2) 0) (store i op) (load i op)
+
+abbrev pub syncWord : Insn → ℕ
+syncWord i = excluded i (getD exclusives (i .name - STREX) 0)

@@ -1,10 +1,10 @@
 -- The word of a block transfer, a branch, an unconditional blx or a preload, from its answer.
 use mathlib.Core.List.{List, [], _∷_}
 use Prim.Native.Nat.{ℕ, _+_, _-_, _/_, _%_, _^_}
-use lib.Dec.{eqb}
+use lib.Dec.{eqb, ltb}
 use Rattle.word.specs.Choice.{pick}
 use Rattle.word.specs.Layout.{join}
-use Rattle.insn.specs.Name.{LDMDA, LDM, LDMDB, LDMIB, STMDA, STM, STMDB, POP, PUSH, BL, PLDW}
+use Rattle.insn.specs.Name.{LDMDA, POP, PUSH, BL, PLDW}
 use Rattle.insn.specs.declared.Insn.{Insn}
 use Rattle.parts.specs.Parts.{at, number, isWriteBack, up}
 
@@ -20,18 +20,16 @@ abbrev pub multiple : Insn → ℕ → ℕ → ℕ
 multiple i l kind =
     laidBlock i (number (at i 1)) (at i 0 .reg) l (pick (isWriteBack (at i 0)) 1 0) kind
 
+-- ldmda .. ldmib, stmda .. stmib, in that order
+abbrev pub plainBlock : Insn → ℕ → ℕ
+plainBlock i n = multiple i (pick (ltb n 4) 1 0) (n % 4)
+
+-- pop and push name the list alone
 abbrev pub blockWord : Insn → ℕ
 blockWord i =
     pick (eqb (i .name) POP) (laidBlock i (number (at i 0)) 13 1 1 1)
     (pick (eqb (i .name) PUSH) (laidBlock i (number (at i 0)) 13 0 1 2)
-    (pick (eqb (i .name) LDMDA) (multiple i 1 0)
-    (pick (eqb (i .name) LDM) (multiple i 1 1)
-    (pick (eqb (i .name) LDMDB) (multiple i 1 2)
-    (pick (eqb (i .name) LDMIB) (multiple i 1 3)
-    (pick (eqb (i .name) STMDA) (multiple i 0 0)
-    (pick (eqb (i .name) STM) (multiple i 0 1)
-    (pick (eqb (i .name) STMDB) (multiple i 0 2)
-    (multiple i 0 3)))))))))
+    (plainBlock i (i .name - LDMDA)))
 
 -- how far a target lies from the address plus 8, in 32 bits
 unfoldable pub offsetOf : ℕ → ℕ → ℕ

@@ -15,6 +15,8 @@ use Rattle.parts.proofs.read.up.Reads as up
 use Rattle.parts.proofs.read.bit_u.Reads as bit-u
 use Rattle.parts.proofs.read.bit_p.Reads as bit-p
 use Rattle.parts.proofs.read.bit_w.Reads as bit-w
+use Rattle.parts.proofs.read.past.Reads as past
+use Rattle.parts.proofs.read.entry.Reads as entry
 
 pub flatten-only : Only flatten.Post
 flatten-only κs a r r′ s s′ p q = p ∙ sym q
@@ -54,3 +56,9 @@ bit-p-only κs a r r′ s s′ p q = p ∙ sym q
 
 pub bit-w-only : Only bit-w.Post
 bit-w-only κs a r r′ s s′ p q = p ∙ sym q
+
+pub past-only : Only past.Post
+past-only κs a r r′ s s′ p q = p ∙ sym q
+
+pub entry-only : Only entry.Post
+entry-only κs a r r′ s s′ p q = p ∙ sym q

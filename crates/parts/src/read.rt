@@ -5,6 +5,7 @@ use insn::Insn;
 ghost use mathlib.Core.Path.{_≡_};
 ghost use Prim.Native.Nat.{_-_, _^_, _<_};
 ghost use lib.Dec.{eqb};
+ghost use lib.ListN.{getD};
 ghost use Rattle.parts.specs.Parts as P;
 
 /// The numbers of the kinds by which words of one name differ.
@@ -125,4 +126,19 @@ pub fn bit_w(mode: u8) -> u64
     ensures { λ r. ⌜ r ≡ P.bitW mode ⌝ }
 {
     if mode == 1 { 1 } else { 0 }
+}
+
+/// How far a name is past the first of its group.
+pub fn past(n: u16, first: u16) -> u64
+    ensures { λ r. ⌜ r ≡ n - first ⌝ }
+{
+    if n < first { 0 } else { (n - first) as u64 }
+}
+
+/// An entry of a table, or 0 beyond its end.
+pub fn entry(table: &[u64], n: u64) -> u64
+    ensures { λ r. ⌜ r ≡ getD (now (table .entry)) n 0 ⌝ }
+{
+    let k = n as usize;
+    if k < table.len() { table[k] } else { 0 }
 }

@@ -6,6 +6,7 @@ use parts::read::at;
 use parts::read::cond;
 use parts::read::is_at;
 use parts::read::number_at;
+use parts::read::past;
 use parts::read::register_at;
 use parts::read::up;
 use word::join;
@@ -46,6 +47,18 @@ fn multiple(i: Insn, l: u64, kind: u64) -> u32
     )
 }
 
+/// Ldmda .. ldmib, stmda .. stmib, in that order.
+fn plain_block(i: Insn, n: u64) -> u32
+    ensures { λ r. ⌜ r ≡ W.plainBlock i n % 2 ^ 32 ⌝ }
+{
+    if n < 4 {
+        multiple(i, 1, n % 4)
+    } else {
+        multiple(i, 0, n % 4)
+    }
+}
+
+/// Pop and push name the list alone.
 pub fn block_word(i: Insn) -> u32
     ensures { λ r. ⌜ r ≡ W.blockWord i % 2 ^ 32 ⌝ }
 {
@@ -53,14 +66,7 @@ pub fn block_word(i: Insn) -> u32
     match n {
         name::POP => laid_block(i, number_at(i, 0), 13, 1, 1, 1),
         name::PUSH => laid_block(i, number_at(i, 0), 13, 0, 1, 2),
-        name::LDMDA => multiple(i, 1, 0),
-        name::LDM => multiple(i, 1, 1),
-        name::LDMDB => multiple(i, 1, 2),
-        name::LDMIB => multiple(i, 1, 3),
-        name::STMDA => multiple(i, 0, 0),
-        name::STM => multiple(i, 0, 1),
-        name::STMDB => multiple(i, 0, 2),
-        _ => multiple(i, 0, 3),
+        _ => plain_block(i, past(n, name::LDMDA)),
     }
 }
 

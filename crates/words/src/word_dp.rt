@@ -9,8 +9,10 @@ use parts::read::SHIFT_BY;
 use parts::read::amount_at;
 use parts::read::at;
 use parts::read::cond;
+use parts::read::entry;
 use parts::read::number;
 use parts::read::number_at;
+use parts::read::past;
 use parts::read::register_at;
 use word::join;
 ghost use mathlib.Core.List.{[], _∷_};
@@ -32,10 +34,10 @@ fn operation(n: u16) -> u64
     ensures { λ r. ⌜ r ≡ W.operation n ⌝ }
 {
     if n < 16 {
-        return n as u64;
+        n as u64
+    } else {
+        entry(&OPERATIONS, past(n, 16))
     }
-    let m = n - 16;
-    if m < 12 { OPERATIONS[m as usize] } else { 0 }
 }
 
 /// Bit 20 of them: compares set the flags.

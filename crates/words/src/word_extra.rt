@@ -1,5 +1,6 @@
-//! The word of a multiply, an exclusive, or an extra load or store, from its answer.
+//! The word of an extra load or store, or of another word with bits 7 and 4 set, from its answer.
 use crate::word_multiply::multiply_word;
+use crate::word_multiply::sync_word;
 use insn::Insn;
 use insn::name;
 use parts::Flat;
@@ -8,50 +9,12 @@ use parts::read::bit_p;
 use parts::read::bit_u;
 use parts::read::bit_w;
 use parts::read::cond;
+use parts::read::past;
 use parts::read::register_at;
 use word::join;
 ghost use mathlib.Core.Path.{_≡_};
 ghost use Prim.Native.Nat.{_%_, _^_};
 ghost use Rattle.home.specs.WordExtra as W;
-
-/// rm 1 00 1 0000 rd rn op 1 000 cond, from bit 0 up.
-const EXCLUSIVE: [u64; 11] = [4, 1, 2, 1, 4, 4, 4, 4, 1, 3, 4];
-
-/// The exclusive with Rm, Rn and 23:20.
-fn exclusive(i: Insn, rm: u64, rn: u64, op: u64) -> u32
-    ensures { λ r. ⌜ r ≡ W.exclusive i rm rn op % 2 ^ 32 ⌝ }
-{
-    join(
-        &EXCLUSIVE,
-        &[rm, 1, 0, 1, 0, register_at(i, 0), rn, op, 1, 0, cond(i)],
-    )
-}
-
-fn store(i: Insn, op: u64) -> u32
-    ensures { λ r. ⌜ r ≡ W.store i op % 2 ^ 32 ⌝ }
-{
-    exclusive(i, register_at(i, 1), register_at(i, 2), op)
-}
-
-fn load(i: Insn, op: u64) -> u32
-    ensures { λ r. ⌜ r ≡ W.load i op % 2 ^ 32 ⌝ }
-{
-    exclusive(i, 0, register_at(i, 1), op)
-}
-
-fn sync_word(i: Insn) -> u32
-    ensures { λ r. ⌜ r ≡ W.syncWord i % 2 ^ 32 ⌝ }
-{
-    let n = i.name;
-    match n {
-        name::STREX => store(i, 8),
-        name::LDREX => load(i, 9),
-        name::STREXB => store(i, 12),
-        name::LDREXB => load(i, 13),
-        name::STREXH => store(i, 14),
-        _ => load(i, 15),
-    }
-}
 
 /// Bit 22 is set without an index.
 fn bit_i(f: Flat) -> u64
@@ -120,18 +83,27 @@ fn pair(i: Insn, kind: u64, l: u64) -> u32
     transfer(i, register_at(i, 0), kind, l, at(i, 2))
 }
 
+/// The pairs, ldrd and strd, have L clear.
+fn kinded(i: Insn, kind: u64, l: u64) -> u32
+    ensures { λ r. ⌜ r ≡ W.kinded i kind l % 2 ^ 32 ⌝ }
+{
+    if 2 <= kind {
+        if l == 0 {
+            pair(i, kind, l)
+        } else {
+            single(i, kind, l)
+        }
+    } else {
+        single(i, kind, l)
+    }
+}
+
+/// Strh, ldrh, ldrd, ldrsb, strd, ldrsh: by kind, and L.
 fn transfer_word(i: Insn) -> u32
     ensures { λ r. ⌜ r ≡ W.transferWord i % 2 ^ 32 ⌝ }
 {
-    let n = i.name;
-    match n {
-        name::STRH => single(i, 1, 0),
-        name::LDRH => single(i, 1, 1),
-        name::LDRD => pair(i, 2, 0),
-        name::LDRSB => single(i, 2, 1),
-        name::STRD => pair(i, 3, 0),
-        _ => single(i, 3, 1),
-    }
+    let n = past(i.name, name::STRH);
+    kinded(i, n / 2 + 1, n % 2)
 }
 
 pub fn extra_word(i: Insn) -> u32

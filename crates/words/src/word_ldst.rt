@@ -7,49 +7,32 @@ use parts::read::bit_p;
 use parts::read::bit_u;
 use parts::read::bit_w;
 use parts::read::cond;
+use parts::read::past;
 use parts::read::register_at;
 use word::join;
 ghost use mathlib.Core.Path.{_≡_};
 ghost use Prim.Native.Nat.{_%_, _^_};
 ghost use Rattle.home.specs.WordLdst as W;
 
-/// L.
+/// L: ldr, ldrb, str, strb, and the `t` names in that order.
 fn load_bit(n: u16) -> u64
     ensures { λ r. ⌜ r ≡ W.loadBit n ⌝ }
 {
-    match n {
-        name::LDR => 1,
-        name::LDRB => 1,
-        name::LDRT => 1,
-        name::LDRBT => 1,
-        _ => 0,
-    }
+    1 - past(n, name::LDR) / 2 % 2
 }
 
 /// B.
 fn byte_bit(n: u16) -> u64
     ensures { λ r. ⌜ r ≡ W.byteBit n ⌝ }
 {
-    match n {
-        name::LDRB => 1,
-        name::STRB => 1,
-        name::LDRBT => 1,
-        name::STRBT => 1,
-        _ => 0,
-    }
+    past(n, name::LDR) % 2
 }
 
 /// Whether the name is one of the `t` names.
 fn user_bit(n: u16) -> u64
     ensures { λ r. ⌜ r ≡ W.userBit n ⌝ }
 {
-    match n {
-        name::LDRT => 1,
-        name::LDRBT => 1,
-        name::STRT => 1,
-        name::STRBT => 1,
-        _ => 0,
-    }
+    past(n, name::LDR) / 4
 }
 
 /// W, by the mode or the name.

@@ -3,8 +3,10 @@ use insn::Insn;
 use insn::name;
 use parts::read::amount_at;
 use parts::read::cond;
+use parts::read::entry;
 use parts::read::how_at;
 use parts::read::number_at;
+use parts::read::past;
 use parts::read::register_at;
 use word::join;
 ghost use mathlib.Core.Path.{_≡_};
@@ -167,6 +169,40 @@ fn usat_word(i: Insn) -> u32
     sat_laid(7, number_at(i, 1), i)
 }
 
+/// 24:20 of the names rev, rev16, rbit, revsh, and sxtb16 .. uxtah.
+const OPERATIONS: [u64; 16] = [11, 11, 15, 15, 8, 8, 10, 10, 11, 11, 12, 12, 14, 14, 15, 15];
+
+/// 7:5 of rev and rbit is 1, and of the others 5.
+fn reversed(n: u64, i: Insn) -> u32
+    ensures { λ r. ⌜ r ≡ W.reversed n i % 2 ^ 32 ⌝ }
+{
+    rev_word(entry(&OPERATIONS, n), n % 2 * 4 + 1, i)
+}
+
+/// Every second extend adds.
+fn extended(n: u64, i: Insn) -> u32
+    ensures { λ r. ⌜ r ≡ W.extended n i % 2 ^ 32 ⌝ }
+{
+    let op = entry(&OPERATIONS, n);
+    if n % 2 == 0 {
+        extend_word(op, i)
+    } else {
+        add_extend_word(op, i)
+    }
+}
+
+/// A rev or an extend.
+fn moved(i: Insn) -> u32
+    ensures { λ r. ⌜ r ≡ W.moved (i .name) i % 2 ^ 32 ⌝ }
+{
+    let n = i.name;
+    if n <= name::REVSH {
+        reversed(past(n, name::REV), i)
+    } else {
+        extended(past(n, name::REV), i)
+    }
+}
+
 pub fn media_word(i: Insn) -> u32
     ensures { λ r. ⌜ r ≡ W.mediaWord i % 2 ^ 32 ⌝ }
 {
@@ -181,21 +217,6 @@ pub fn media_word(i: Insn) -> u32
         name::UDIV => div_word(19, i),
         name::SSAT => ssat_word(i),
         name::USAT => usat_word(i),
-        name::REV => rev_word(11, 1, i),
-        name::REV16 => rev_word(11, 5, i),
-        name::RBIT => rev_word(15, 1, i),
-        name::REVSH => rev_word(15, 5, i),
-        name::SXTB16 => extend_word(8, i),
-        name::SXTAB16 => add_extend_word(8, i),
-        name::SXTB => extend_word(10, i),
-        name::SXTAB => add_extend_word(10, i),
-        name::SXTH => extend_word(11, i),
-        name::SXTAH => add_extend_word(11, i),
-        name::UXTB16 => extend_word(12, i),
-        name::UXTAB16 => add_extend_word(12, i),
-        name::UXTB => extend_word(14, i),
-        name::UXTAB => add_extend_word(14, i),
-        name::UXTH => extend_word(15, i),
-        _ => add_extend_word(15, i),
+        _ => moved(i),
     }
 }

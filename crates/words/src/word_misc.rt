@@ -5,6 +5,7 @@ use parts::read::amount_at;
 use parts::read::cond;
 use parts::read::how_at;
 use parts::read::number_at;
+use parts::read::past;
 use parts::read::register_at;
 use word::join;
 ghost use mathlib.Core.Path.{_≡_};
@@ -93,10 +94,7 @@ pub fn misc_word(i: Insn) -> u32
         name::CLZ => several(i, 1, 0, 3),
         name::BXJ => single(i, register_at(i, 0), 2, 0),
         name::BLX => single(i, register_at(i, 0), 3, 0),
-        name::QADD => saturating(i, 0),
-        name::QSUB => saturating(i, 1),
-        name::QDADD => saturating(i, 2),
         name::BKPT => numbered(i),
-        _ => saturating(i, 3),
+        _ => saturating(i, past(n, name::QADD)),
     }
 }

@@ -37,20 +37,14 @@ register-at-requires-4 c κs = search needs
 single-requires-3 : tie.Need-single-requires-3
 single-requires-3 c κs = search needs
 
-saturating-requires : tie.Need-saturating-requires
-saturating-requires c κs = search needs
-
-saturating-requires-2 : tie.Need-saturating-requires-2
-saturating-requires-2 c κs = search needs
-
-saturating-requires-3 : tie.Need-saturating-requires-3
-saturating-requires-3 c κs = search needs
-
 numbered-requires : tie.Need-numbered-requires
 numbered-requires c κs = search needs
 
-saturating-requires-4 : tie.Need-saturating-requires-4
-saturating-requires-4 c κs = search needs
+past-requires : tie.Need-past-requires
+past-requires c κs = search needs
+
+saturating-requires : tie.Need-saturating-requires
+saturating-requires c κs = search needs
 
 returns : tie.Need-returns
 returns c =
@@ -65,43 +59,47 @@ returns-2 : tie.Need-returns-2
 returns-2 c = simp (c .masked .ensures, c .before .match .keys2)
 
 returns-3 : tie.Need-returns-3
-returns-3 c = simp (c .single .ensures, c .before .register-at2 .ensures, c .before .before .match .keys3)
+returns-3 c =
+    simp (
+      c .single .ensures,
+      c .before .register-at2 .ensures,
+      c .before .before .match .keys3,
+    )
 
 returns-4 : tie.Need-returns-4
 returns-4 c = simp (c .several .ensures, c .before .match .keys4)
 
 returns-5 : tie.Need-returns-5
-returns-5 c = simp (c .single2 .ensures, c .before .register-at3 .ensures, c .before .before .match .keys5)
+returns-5 c =
+    simp (
+      c .single2 .ensures,
+      c .before .register-at3 .ensures,
+      c .before .before .match .keys5,
+    )
 
 returns-6 : tie.Need-returns-6
-returns-6 c = simp (c .single3 .ensures, c .before .register-at4 .ensures, c .before .before .match .keys6)
+returns-6 c =
+    simp (
+      c .single3 .ensures,
+      c .before .register-at4 .ensures,
+      c .before .before .match .keys6,
+    )
 
 returns-7 : tie.Need-returns-7
-returns-7 c = simp (c .saturating .ensures, c .before .match .keys7)
+returns-7 c = simp (c .numbered .ensures, c .before .match .keys7)
 
 returns-8 : tie.Need-returns-8
-returns-8 c = simp (c .saturating2 .ensures, c .before .match .keys8)
-
-returns-9 : tie.Need-returns-9
-returns-9 c = simp (c .saturating3 .ensures, c .before .match .keys9)
-
-returns-10 : tie.Need-returns-10
-returns-10 c = simp (c .numbered .ensures, c .before .match .keys10)
-
-returns-11 : tie.Need-returns-11
-returns-11 c =
+returns-8 c =
     simp (
-      c .saturating4 .ensures,
-      ne-eqb _ _ (c .before .match .rest .1),
-      ne-eqb _ _ (c .before .match .rest .0 .1),
-      ne-eqb _ _ (c .before .match .rest .0 .0 .1),
-      ne-eqb _ _ (c .before .match .rest .0 .0 .0 .1),
-      ne-eqb _ _ (c .before .match .rest .0 .0 .0 .0 .1),
-      ne-eqb _ _ (c .before .match .rest .0 .0 .0 .0 .0 .1),
-      ne-eqb _ _ (c .before .match .rest .0 .0 .0 .0 .0 .0 .1),
-      ne-eqb _ _ (c .before .match .rest .0 .0 .0 .0 .0 .0 .0 .1),
-      ne-eqb _ _ (c .before .match .rest .0 .0 .0 .0 .0 .0 .0 .0 .1),
-      ne-eqb _ _ (c .before .match .rest .0 .0 .0 .0 .0 .0 .0 .0 .0 .1),
+      c .saturating .ensures,
+      c .before .past .ensures,
+      ne-eqb _ _ (c .before .before .match .rest .1),
+      ne-eqb _ _ (c .before .before .match .rest .0 .1),
+      ne-eqb _ _ (c .before .before .match .rest .0 .0 .1),
+      ne-eqb _ _ (c .before .before .match .rest .0 .0 .0 .1),
+      ne-eqb _ _ (c .before .before .match .rest .0 .0 .0 .0 .1),
+      ne-eqb _ _ (c .before .before .match .rest .0 .0 .0 .0 .0 .1),
+      ne-eqb _ _ (c .before .before .match .rest .0 .0 .0 .0 .0 .0 .1),
     )
 
 pub misc-word-spec : {M : Type 1} → statement M
@@ -119,11 +117,9 @@ misc-word-spec =
     single-requires-2
     register-at-requires-4
     single-requires-3
-    saturating-requires
-    saturating-requires-2
-    saturating-requires-3
     numbered-requires
-    saturating-requires-4
+    past-requires
+    saturating-requires
     returns
     returns-2
     returns-3
@@ -131,7 +127,4 @@ misc-word-spec =
     returns-5
     returns-6
     returns-7
-    returns-8
-    returns-9
-    returns-10
-    returns-11)
+    returns-8)
