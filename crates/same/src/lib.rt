@@ -83,22 +83,22 @@ fn same_place(a: Place, b: Place) -> bool
 }
 
 /// An operand as numbers: its kind, then its values, 0 where it has none.
-struct Flat {
-    kind: u8,
+pub struct Flat {
+    pub kind: u8,
     /// A register, or the base of a memory reference.
-    reg: u8,
+    pub reg: u8,
     /// The kind of a shift, the status register, or whether a memory reference has an index.
-    how: u8,
+    pub how: u8,
     /// The amount of a shift, of a rotation, or of an index.
-    amount: u8,
-    negative: u8,
+    pub amount: u8,
+    pub negative: u8,
     /// A signed number's magnitude (of a negative one, its complement), or an unsigned number.
-    value: u64,
-    index: u8,
-    mode: u8,
-    size: u8,
-    decimal: u8,
-    minus: u8,
+    pub value: u64,
+    pub index: u8,
+    pub mode: u8,
+    pub size: u8,
+    pub decimal: u8,
+    pub minus: u8,
 }
 
 impl Flat {
@@ -156,7 +156,7 @@ impl Flat {
     }
 }
 
-fn flatten(o: Operand) -> Flat
+pub fn flatten(o: Operand) -> Flat
     ensures { λ r. ⌜ r ≡ operandFlat o ⌝ }
 {
     match o {
