@@ -1,7 +1,8 @@
--- The row that decoding writes reads back as the answer, and encodes to the word's home word. Assumes nothing.
+-- The row that decoding writes reads back as the answer, and encodes to the word's home word; so rows differ where home words do. Assumes nothing.
 use mathlib.Core.Path.{_≡_, refl, sym, ap, _∙_, subst}
 use mathlib.Core.Bool.{Bool, true, false}
 use mathlib.Core.List.{List, [], _∷_, _++_}
+use mathlib.Core.Logic.{_↔_}
 use Prim.Native.Nat.{ℕ, _+_, _^_, _<_, _≤_}
 use native.Mathlib.Nat.{zero-add}
 use native.Mathlib.Omega.{arith}
@@ -23,6 +24,8 @@ use Rattle.insn.specs.declared.Operand.the-variants.{Empty, Register, Shifted, 
 use Rattle.insn.specs.declared.Place.{Place}
 use Rattle.a32.specs.Decode.{decodeOf}
 use Rattle.home.specs.Home.{homeOf}
+use Rattle.home.specs.Word.{wordOf}
+use Rattle.home.proofs.Same.{leads-home, same-answer}
 use Rattle.same.specs.Same.{magnitude}
 use Rattle.encode.specs.Encode.{encodeOf}
 use Rattle.encode.specs.declared.Encoded.{Encoded}
@@ -179,3 +182,19 @@ pub goes-home : (w addr : ℕ) (out : List ℕ) → w < 2 ^ 32 → rowRefusal (d
 goes-home w addr out bound e =
     ap (λ (x : Encoded). packed (x .refusal) (x .word))
     (ap encodeOf (reads-back w addr out e) ∙ encodes-home w addr bound (accepts (decodeOf w addr) out e))
+
+-- different work, different rows
+pub rows-alike : (w v addr : ℕ) (out : List ℕ) → w < 2 ^ 32 → v < 2 ^ 32 → rowRefusal (decodeOf w addr) out ≡ 0 → rowRefusal (decodeOf v addr) out ≡ 0
+    → (rowLast (decodeOf w addr) out ≡ rowLast (decodeOf v addr) out) ↔ (homeOf w ≡ homeOf v)
+rows-alike w v addr out bound bound′ e e′ = (one-home, one-row)
+  where
+    one-home : rowLast (decodeOf w addr) out ≡ rowLast (decodeOf v addr) out → homeOf w ≡ homeOf v
+    one-home same =
+        sym (leads-home w addr bound (accepts (decodeOf w addr) out e))
+        ∙ ap wordOf (sym (reads-back w addr out e) ∙ ap insnFrom same ∙ reads-back v addr out e′)
+        ∙ leads-home v addr bound′ (accepts (decodeOf v addr) out e′)
+
+    one-row : homeOf w ≡ homeOf v → rowLast (decodeOf w addr) out ≡ rowLast (decodeOf v addr) out
+    one-row same =
+        ap (λ (d : Decoded). rowLast d out)
+        (same-answer w v addr bound bound′ (accepts (decodeOf w addr) out e) (accepts (decodeOf v addr) out e′) .1 same)
