@@ -350,3 +350,33 @@ fn printed(command: &[&str], input: &[u8]) -> io::Result<Vec<u8>> {
         Err(io::Error::other(output.status.to_string()))
     }
 }
+
+#[cfg(test)]
+mod tests {
+    use super::{Kind, made};
+    use crate::oracle::Oracle;
+    use crate::section::listing;
+
+    /// Sections of these kinds have one fate, and every refusal has some section.
+    #[test]
+    fn sections_are_damaged_as_they_should_be() {
+        let mut oracle = Oracle::new();
+        let mut refused = [false; 10];
+        for index in 0..2_000 {
+            let (kind, section) = made(1, index);
+            let listing = listing(&mut oracle, &section);
+            let refusal = listing
+                .strip_prefix("refused ")
+                .map_or(0, |number| number.trim_end().parse().expect("a number"));
+            refused[refusal] = true;
+            match kind {
+                Kind::Good => assert_eq!(refusal, 0),
+                Kind::Mark => assert_eq!(refusal, 5),
+                Kind::Version => assert_eq!(refusal, 6),
+                Kind::Unaligned => assert_eq!(refusal, 9),
+                _ => {}
+            }
+        }
+        assert!(refused[0] && refused[5..].iter().all(|&some| some));
+    }
+}
