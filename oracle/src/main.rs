@@ -11,6 +11,7 @@ mod damage;
 mod digest;
 mod home;
 mod line;
+mod load;
 mod made;
 mod names;
 mod oracle;
@@ -43,14 +44,16 @@ use proved::{PROVED, Proved};
 use words::hex;
 
 const USAGE: &str = "\
-modes of the oracle (numbers are hexadecimal, but those of values; no SET is every word):
+modes of the oracle (numbers are hexadecimal, but COUNT and SEED; no SET is every word):
   lines                reads lines of address, tab, word; adds the line of the listing to each
   answers              reads the same; prints what the program `answers` prints of each
   listings FILE ..     prints what the program `listings` prints of the sections in the files
   count [SET]          counts what the Rust accepts and refuses
   sweep ADDRESS [SET]  compares the Rust with the proved code, word by word
   trip ADDRESS [SET]   has the proved code decode and encode each word, which gives its home word
-  values COUNT SEED    has the proved code encode made-up values (both numbers in base ten)
+  values COUNT SEED    has the proved code encode made-up values
+  load COUNT SEED      has the proved code list made-up and damaged sections
+  load COUNT SEED PROGRAM ..  runs the program on each instead
   bench                times the Rust and the proved code
   SET                  FIRST COUNT, or 'branches'";
 
@@ -87,6 +90,15 @@ fn run(arguments: &[&str]) -> Result<ExitCode, String> {
             println!("{tally}\n{failures} failures");
             return Ok(success_if(failures == 0));
         }
+        ["load", count, seed, program @ ..] => {
+            let (count, seed) = (decimal(count)?, decimal(seed)?);
+            let (tally, failures) = match program {
+                [] => load::function(proved()?, count, seed),
+                program => load::program(program, count, seed),
+            };
+            println!("{tally}\n{failures} failures");
+            return Ok(success_if(failures == 0));
+        }
         ["bench"] => bench::bench(),
         _ => return Err(USAGE.to_string()),
     }
@@ -116,7 +128,7 @@ fn each_file(files: &[&str]) -> Result<(), String> {
     let mut oracle = Oracle::new();
     for file in files {
         let input = fs::read(file).map_err(|why| format!("{file}: {why}"))?;
-        print!("{file}:\n{}", section::listing(&mut oracle, &input));
+        print!("{file}:\n{}", section::program_listing(&mut oracle, &input));
     }
     Ok(())
 }

@@ -4,7 +4,7 @@ use std::fmt::{self, Display, Formatter};
 
 use crate::row::Row;
 
-/// What the crates `digest` and `trip` have to call.
+/// What the crates `digest`, `trip` and `brassdozen` have to call.
 #[derive(Clone, Copy)]
 pub struct Proved {
     /// Folds the answers to `count` words from `first` on, all at `address`, into `h`, which is
@@ -16,6 +16,9 @@ pub struct Proved {
     pub named: extern "C" fn(word: u32, address: u64) -> u64,
     /// Encodes the value of a row. Gives what `Coded::of` reads.
     pub encode: fn(row: &Row) -> u64,
+    /// Writes the listing of a section to the start of `out`. Gives what `Coded::of` reads, with a
+    /// length in the word's place.
+    pub listing: fn(section: &[u8], out: &mut [u8]) -> u64,
 }
 
 /// What encoding gives: a word beside no refusal, or a refusal's number beside word 0.
@@ -62,6 +65,7 @@ pub const PROVED: Option<Proved> = Some(Proved {
     trip: linked::trip,
     named: linked::named,
     encode: linked::encode,
+    listing: linked::listing,
 });
 
 #[cfg(not(proved))]
@@ -75,11 +79,18 @@ mod linked {
         pub safe fn digest(h: u64, first: u32, count: u32, address: u64) -> u64;
         pub safe fn trip(word: u32, address: u64) -> u64;
         pub safe fn named(word: u32, address: u64) -> u64;
-        fn encode_row(row: *const u64, numbers: usize) -> u64;
+        fn brassdozen_encode(row: *const u64, numbers: usize) -> u64;
+        fn brassdozen_listing(section: *const u8, bytes: usize, out: *mut u8, room: usize) -> u64;
     }
 
+    // Safety: a slice of Rattle's is a pointer and how many numbers it points at; it is only read
+    // behind a `&`, and only it is written behind a `&mut`.
+
     pub fn encode(row: &Row) -> u64 {
-        // Safety: Rattle's `&[u64]` is a pointer and how many numbers it points at, and is only read.
-        unsafe { encode_row(row.as_ptr(), row.len()) }
+        unsafe { brassdozen_encode(row.as_ptr(), row.len()) }
+    }
+
+    pub fn listing(section: &[u8], out: &mut [u8]) -> u64 {
+        unsafe { brassdozen_listing(section.as_ptr(), section.len(), out.as_mut_ptr(), out.len()) }
     }
 }

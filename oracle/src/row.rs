@@ -1,4 +1,4 @@
-//! An instruction value as the row of numbers that `encode_row` takes. What each place of the row
+//! An instruction value as the row of numbers that `brassdozen_encode` takes. What each place of the row
 //! means is in crates/value/specs/Value.antt.
 
 use crate::answer::{Index, Instruction, Memory, Operand, PLACES};

@@ -7,8 +7,8 @@ use crate::line::Line;
 use crate::oracle::Oracle;
 
 /// Mark, version and base.
-const HEADER: usize = 9;
-const MOST_WORDS: usize = 4096;
+pub const HEADER: usize = 9;
+pub const MOST_WORDS: usize = 4096;
 
 /// The most that the program reads of its input.
 const READ: usize = HEADER + 4 * (MOST_WORDS + 1);
@@ -54,8 +54,12 @@ impl Section {
 }
 
 /// What the program prints of an input.
-pub fn listing(oracle: &mut Oracle, input: &[u8]) -> String {
-    match Section::read(&input[..input.len().min(READ)]) {
+pub fn program_listing(oracle: &mut Oracle, input: &[u8]) -> String {
+    listing(oracle, &input[..input.len().min(READ)])
+}
+
+pub fn listing(oracle: &mut Oracle, section: &[u8]) -> String {
+    match Section::read(section) {
         Ok(section) => listed(oracle, &section),
         Err(refusal) => format!("refused {refusal}\n"),
     }

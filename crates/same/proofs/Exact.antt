@@ -34,7 +34,7 @@ use Rattle.same.specs.Same.{sameFlat, sameOperand, samePlaces, sameFlow,
 abbrev shiftBack : ℕ → Shift
 shiftBack n = pick (eqb n 0) Lsl (pick (eqb n 1) Lsr (pick (eqb n 2) Asr Ror))
 
-shift-back : (k : Shift) → shiftBack (shiftNumber k) ≡ k
+pub shift-back : (k : Shift) → shiftBack (shiftNumber k) ≡ k
 shift-back Lsl = refl
 shift-back Lsr = refl
 shift-back Asr = refl
@@ -43,14 +43,14 @@ shift-back Ror = refl
 abbrev statusBack : ℕ → Status
 statusBack n = pick (eqb n 0) Apsr Spsr
 
-status-back : (s : Status) → statusBack (statusNumber s) ≡ s
+pub status-back : (s : Status) → statusBack (statusNumber s) ≡ s
 status-back Apsr = refl
 status-back Spsr = refl
 
 abbrev modeBack : ℕ → AddrMode
 modeBack n = pick (eqb n 0) Offset (pick (eqb n 1) PreIndex PostIndex)
 
-mode-back : (m : AddrMode) → modeBack (modeNumber m) ≡ m
+pub mode-back : (m : AddrMode) → modeBack (modeNumber m) ≡ m
 mode-back Offset = refl
 mode-back PreIndex = refl
 mode-back PostIndex = refl
@@ -138,7 +138,7 @@ flowBack n a =
     (pick (eqb n 3) IndirectBranch
     (pick (eqb n 4) (Call a) (pick (eqb n 5) IndirectCall (pick (eqb n 6) Return Trap))))))
 
-flow-back : (f : Flow) → flowBack (flowNumber f) (flowTarget f) ≡ f
+pub flow-back : (f : Flow) → flowBack (flowNumber f) (flowTarget f) ≡ f
 flow-back Next = refl
 flow-back (Branch a) = refl
 flow-back (CondBranch a) = refl

@@ -2,14 +2,10 @@
 -- Assumes nothing.
 use mathlib.Core.Path.{_≡_, _∙_, sym}
 use Rattle.trip.proofs.trip.Reads as trip
-use Rattle.trip.proofs.encode_row.Reads as encode-row
 use Rattle.trip.proofs.named.Reads as named
 
 pub trip-only : (κs : _) (a : _) (r r′ : _) (s s′ : _) → trip.Post κs a r s → trip.Post κs a r′ s′ → r ≡ r′
 trip-only κs a r r′ s s′ p q = p ∙ sym q
-
-pub encode-row-only : (κs : _) (a : _) (r r′ : _) (s s′ : _) → encode-row.Post κs a r s → encode-row.Post κs a r′ s′ → r ≡ r′
-encode-row-only κs a r r′ s s′ p q = p ∙ sym q
 
 pub named-only : (κs : _) (a : _) (r r′ : _) (s s′ : _) → named.Post κs a r s → named.Post κs a r′ s′ → r ≡ r′
 named-only κs a r r′ s s′ p q = p ∙ sym q

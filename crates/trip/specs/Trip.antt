@@ -1,17 +1,12 @@
--- Words and values there and back, as a number: a refusal's number above a word.
-use mathlib.Core.List.{List}
-use Prim.Native.Nat.{ℕ, _+_, _*_, _^_}
+-- Words there and back, as a number: a refusal's number above a word.
+use Prim.Native.Nat.{ℕ}
 use lib.Dec.{eqb}
 use Rattle.word.specs.Choice.{pick}
 use Rattle.insn.specs.declared.Decoded.{Decoded}
-use Rattle.insn.specs.declared.Insn.{Insn}
 use Rattle.a32.specs.Decode.{decodeOf}
 use Rattle.encode.specs.Encode.{encodeOf}
 use Rattle.encode.specs.declared.Encoded.{Encoded}
-use Rattle.value.specs.Value.{insnFrom}
-
-abbrev pub packed : ℕ → ℕ → ℕ
-packed refusal word = refusal * 2 ^ 32 + word
+use Rattle.packed.specs.Packed.{packed}
 
 abbrev pub packedOf : Encoded → ℕ
 packedOf e = packed (e .refusal) (e .word)
@@ -22,10 +17,6 @@ backOf d = pick (eqb (d .refusal) 0) (packedOf (encodeOf (d .insn))) (packed (d 
 -- a word's answer, encoded
 abbrev pub tripOf : ℕ → ℕ → ℕ
 tripOf w addr = backOf (decodeOf w addr)
-
--- a row's value, encoded
-abbrev pub encodedOf : List ℕ → ℕ
-encodedOf row = packedOf (encodeOf (insnFrom row))
 
 -- a word's answer, by its refusal and its name number alone
 abbrev pub namedOf : ℕ → ℕ → ℕ

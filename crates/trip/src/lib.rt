@@ -1,10 +1,10 @@
-//! Words and values there and back, for the runs over every word, over damaged values, and for timing.
+//! Words there and back, for the runs over every word and for timing.
 use a32::decode;
 use encode::Encoded;
 use encode::encode;
-use value::insn_from;
+use packed::pack;
 ghost use mathlib.Core.Path.{_≡_};
-ghost use Rattle.trip.specs.Trip.{packed, packedOf, tripOf, encodedOf, namedOf};
+ghost use Rattle.trip.specs.Trip.{packedOf, tripOf, namedOf};
 
 /// The word that encoding the answer to `w` gives, with a refusal's number above it.
 #[no_mangle]
@@ -17,14 +17,6 @@ pub extern "C" fn trip(w: u32, addr: u64) -> u64
     } else {
         pack(d.refusal, 0)
     }
-}
-
-/// The word that encoding a row's value gives, with a refusal's number above it.
-#[no_mangle]
-pub extern "C" fn encode_row(row: &[u64]) -> u64
-    ensures { λ r. ⌜ r ≡ encodedOf (now (row .entry)) ⌝ }
-{
-    packed(encode(insn_from(row)))
 }
 
 /// The name number of the answer to `w`, with a refusal's number above it: what `trip` does first, alone.
@@ -41,10 +33,4 @@ fn packed(e: Encoded) -> u64
     ensures { λ r. ⌜ r ≡ packedOf e ⌝ }
 {
     pack(e.refusal, e.word)
-}
-
-fn pack(refusal: u8, word: u32) -> u64
-    ensures { λ r. ⌜ r ≡ packed refusal word ⌝ }
-{
-    (refusal as u64) * 0x1_0000_0000 + (word as u64)
 }

@@ -2,7 +2,7 @@
 use mathlib.Core.Path.{ap, _∙_}
 use borrow.Author.Needs.{needs}
 use Rattle.insn.specs.declared.Decoded.{Decoded}
-use Rattle.trip.specs.Trip.{packed}
+use Rattle.packed.specs.Packed.{packed}
 use Rattle.trip.proofs.named.Statement.{statement}
 use Rattle.trip.proofs.named.Tie as tie
 

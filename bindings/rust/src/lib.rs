@@ -1,0 +1,93 @@
+//! Brassdozen for Rust: a decoder, an encoder and a lister of A32, proved to meet their contracts.
+//!
+//! Each function here is safe and calls one of `include/brassdozen.h`, which has its contract in
+//! words, and the layout of a row.
+
+#![no_std]
+
+/// How many numbers a row has.
+pub const ROW: usize = 49;
+
+/// No line has more bytes.
+pub const LINE: usize = 96;
+
+/// No listing has more bytes.
+pub const LISTING: usize = 393_280;
+
+/// The number of a refusal.
+#[derive(Debug, Clone, Copy, PartialEq, Eq)]
+pub struct Refusal(pub u8);
+
+impl Refusal {
+    /// Decoding: condition below 15 and bits 27:26 = 11.
+    pub const COPROCESSOR: Refusal = Refusal(2);
+
+    /// Decoding: any other word that names no instruction that is known.
+    pub const NO_ROW: Refusal = Refusal(3);
+
+    /// Encoding: no word has this answer.
+    pub const NO_WORD: Refusal = Refusal(4);
+
+    /// Writing: longer than what is lent.
+    pub const NO_ROOM: Refusal = Refusal(10);
+}
+
+/// Decodes a word into the first numbers of `row`. A refusal changes none of them.
+pub fn decode(word: u32, address: u64, row: &mut [u64]) -> Result<(), Refusal> {
+    match unsafe { foreign::brassdozen_decode(word, address, row.as_mut_ptr(), row.len()) } {
+        0 => Ok(()),
+        refusal => Err(Refusal(refusal)),
+    }
+}
+
+/// The word whose answer is the value of a row.
+pub fn encode(row: &[u64]) -> Result<u32, Refusal> {
+    given(unsafe { foreign::brassdozen_encode(row.as_ptr(), row.len()) })
+}
+
+/// The home word of a word.
+pub fn home(word: u32) -> Result<u32, Refusal> {
+    given(unsafe { foreign::brassdozen_home(word) })
+}
+
+/// Writes the line of a word to the start of `out`, and gives its length. A refusal changes no byte.
+pub fn line(address: u64, word: u32, out: &mut [u8]) -> Result<usize, Refusal> {
+    let number = unsafe { foreign::brassdozen_line(address, word, out.as_mut_ptr(), out.len()) };
+    given(number).map(|length| length as usize)
+}
+
+/// Writes the listing of a section to the start of `out`, and gives its length. A refusal changes no
+/// byte.
+pub fn listing(section: &[u8], out: &mut [u8]) -> Result<usize, Refusal> {
+    let number = unsafe {
+        foreign::brassdozen_listing(section.as_ptr(), section.len(), out.as_mut_ptr(), out.len())
+    };
+    given(number).map(|length| length as usize)
+}
+
+/// A refusal's number stands above 32 bits of result.
+fn given(number: u64) -> Result<u32, Refusal> {
+    match (number >> 32) as u8 {
+        0 => Ok(number as u32),
+        refusal => Err(Refusal(refusal)),
+    }
+}
+
+/// The declarations. Nothing checks them against the source but the tests.
+///
+/// Safety of every call: a pointer and a length are those of a slice, which Rust keeps valid and
+/// aligned, and, where it is written, apart from all others until the function returns.
+mod foreign {
+    unsafe extern "C" {
+        pub fn brassdozen_decode(word: u32, address: u64, row: *mut u64, length: usize) -> u8;
+        pub fn brassdozen_encode(row: *const u64, length: usize) -> u64;
+        pub fn brassdozen_home(word: u32) -> u64;
+        pub fn brassdozen_line(address: u64, word: u32, out: *mut u8, length: usize) -> u64;
+        pub fn brassdozen_listing(
+            section: *const u8,
+            bytes: usize,
+            out: *mut u8,
+            length: usize,
+        ) -> u64;
+    }
+}

@@ -1,0 +1,404 @@
+//! The header's promises, on many inputs. What the functions answer is compared with what the
+//! repository stores of the unchanged Rust's answers, and with each other's; and every lent buffer
+//! is looked at beyond what may be written.
+
+use std::fs;
+use std::path::PathBuf;
+
+use brassdozen::{LINE, LISTING, ROW, Refusal, decode, encode, home, line, listing};
+
+/// What a buffer holds before a call.
+const UNTOUCHED: u8 = 0xa5;
+const UNTOUCHED_NUMBER: u64 = 0xa5a5_a5a5_a5a5_a5a5;
+
+fn stored(path: &str) -> Vec<u8> {
+    let file = PathBuf::from(env!("CARGO_MANIFEST_DIR"))
+        .join("../../crates")
+        .join(path);
+    fs::read(&file).unwrap_or_else(|why| panic!("{}: {why}", file.display()))
+}
+
+fn stored_text(path: &str) -> String {
+    String::from_utf8(stored(path)).expect("a stored text")
+}
+
+/// Pseudo-random numbers (splitmix64).
+struct Random(u64);
+
+impl Random {
+    fn bits(&mut self) -> u64 {
+        self.0 = self.0.wrapping_add(0x9e37_79b9_7f4a_7c15);
+        let n = (self.0 ^ self.0 >> 30).wrapping_mul(0xbf58_476d_1ce4_e5b9);
+        let n = (n ^ n >> 27).wrapping_mul(0x94d0_49bb_1331_11eb);
+        n ^ n >> 31
+    }
+
+    fn below(&mut self, bound: u64) -> u64 {
+        self.bits() % bound
+    }
+
+    /// Any word, or one whose fields of four bits are often 0, 13, 14 or 15.
+    fn word(&mut self) -> u32 {
+        let mut word = self.bits() as u32;
+        if self.below(2) == 0 {
+            for low in (0..28).step_by(4) {
+                if self.below(2) == 0 {
+                    let field = [0, 13, 14, 15][self.below(4) as usize];
+                    word = word & !(0xf << low) | field << low;
+                }
+            }
+        }
+        word
+    }
+
+    fn address(&mut self) -> u64 {
+        match self.below(3) {
+            0 => 0x8000,
+            1 => self.bits() as u32 as u64,
+            _ => self.bits(),
+        }
+    }
+}
+
+fn decoded(word: u32, address: u64) -> Result<[u64; ROW], Refusal> {
+    let mut row = [UNTOUCHED_NUMBER; ROW];
+    decode(word, address, &mut row).map(|()| row)
+}
+
+fn line_of(address: u64, word: u32) -> Vec<u8> {
+    let mut out = [UNTOUCHED; LINE];
+    let length = line(address, word, &mut out).expect("room for a line");
+    out[..length].to_vec()
+}
+
+/// The words of `crates/answers`, each with its address, and the digest and the line that the Rust's
+/// answer to it has.
+fn stored_words() -> Vec<(u64, u32, u64, String)> {
+    let words: Vec<_> = stored_text("answers/stdout")
+        .lines()
+        .map(|stored| {
+            let mut fields = stored.splitn(3, ' ');
+            let mut field = || fields.next().expect("address, digest and line");
+            let address = u64::from_str_radix(field(), 16).expect("an address");
+            let digest = field().parse().expect("a digest");
+            let line = field().to_string();
+            let word = u32::from_str_radix(&line[9..17], 16).expect("a word");
+            (address, word, digest, line)
+        })
+        .collect();
+    assert!(words.len() >= 3000);
+    words
+}
+
+/// The numbers of an answer in the order in which a digest has them
+/// (`crates/digest/specs/Numbers.antt`), taken from its row.
+fn digested_numbers(row: &[u64; ROW]) -> Vec<u64> {
+    let mut numbers = vec![0];
+    numbers.extend(&row[..5]);
+    for operand in row[5..].chunks_exact(11) {
+        let &[
+            kind,
+            register,
+            how,
+            amount,
+            negative,
+            value,
+            index,
+            mode,
+            size,
+            decimal,
+            minus,
+        ] = operand
+        else {
+            unreachable!()
+        };
+        let signed = if negative == 0 { value } else { !value };
+        let [upper, lower] = [signed >> 32, signed & 0xffff_ffff];
+        numbers.push(kind);
+        numbers.extend(match kind {
+            0 => vec![],
+            1 | 10 => vec![register],
+            2 => vec![register, how, amount],
+            3 => vec![how, register],
+            4 => vec![how, amount],
+            5 | 8 => vec![amount],
+            6 => vec![upper, lower],
+            7 | 11 | 12 => vec![value],
+            9 => vec![how],
+            13 => vec![
+                register, how, index, amount, upper, lower, mode, size, decimal, minus,
+            ],
+            _ => panic!("kind {kind}"),
+        });
+    }
+    numbers
+}
+
+fn digest(numbers: &[u64]) -> u64 {
+    const MODULUS: u64 = 4_294_967_291;
+    numbers.iter().fold(1, |digest, number| {
+        (digest * 16_777_619 + number % MODULUS) % MODULUS
+    })
+}
+
+#[test]
+fn rows_are_the_answers_of_the_rust() {
+    for (address, word, stored, line) in stored_words() {
+        let numbers = match decoded(word, address) {
+            Ok(row) => digested_numbers(&row),
+            Err(Refusal(refusal)) => {
+                assert!(line.ends_with(&format!(" refused {refusal}")), "{line}");
+                vec![refusal.into()]
+            }
+        };
+        assert_eq!(digest(&numbers), stored, "{line}");
+    }
+}
+
+#[test]
+fn lines_are_those_of_the_rust() {
+    for (address, word, _, line) in stored_words() {
+        assert_eq!(line_of(address, word), format!("{line}\n").as_bytes());
+    }
+}
+
+/// Decoded, encoded and decoded again, a word comes to its home word and to the same row.
+#[test]
+fn words_come_home() {
+    let mut random = Random(1);
+    let mut accepted = 0;
+    for _ in 0..500_000 {
+        let (word, address) = (random.word(), random.address());
+        match decoded(word, address) {
+            Ok(row) => {
+                accepted += 1;
+                let back = home(word).expect("an accepted word has a home word");
+                assert_eq!(encode(&row), Ok(back), "{word:08x} at {address:x}");
+                assert_eq!(decoded(back, address), Ok(row), "{word:08x} at {address:x}");
+                assert_eq!(home(back), Ok(back), "{word:08x}");
+                assert_eq!(row[0], address);
+                assert_eq!(row[2], u64::from(word >> 28));
+            }
+            Err(refusal) => {
+                let coprocessor = word >> 28 < 15 && word >> 26 & 3 == 3;
+                let expected = if coprocessor {
+                    Refusal::COPROCESSOR
+                } else {
+                    Refusal::NO_ROW
+                };
+                assert_eq!(refusal, expected, "{word:08x}");
+                assert_eq!(home(word), Err(refusal), "{word:08x}");
+            }
+        }
+    }
+    assert!(
+        (100_000..400_000).contains(&accepted),
+        "{accepted} accepted"
+    );
+}
+
+/// At one address, two words with one home word have equal rows and equal lines but for the word,
+/// and two with different ones have neither.
+#[test]
+fn different_work_has_different_rows_and_lines() {
+    let mut random = Random(2);
+    let [mut alike, mut different] = [0, 0];
+    for _ in 0..200_000 {
+        let (word, address) = (random.word(), random.address());
+        let other = word ^ 1 << random.below(28);
+        let (Ok(row), Ok(other_row)) = (decoded(word, address), decoded(other, address)) else {
+            continue;
+        };
+        let same = home(word) == home(other);
+        assert_eq!(row == other_row, same, "{word:08x} {other:08x}");
+        let text = |word| line_of(address, word)[18..].to_vec();
+        assert_eq!(text(word) == text(other), same, "{word:08x} {other:08x}");
+        *if same { &mut alike } else { &mut different } += 1;
+    }
+    assert!(alike > 1000 && different > 1000, "{alike} and {different}");
+}
+
+#[test]
+fn a_row_is_written_whole_or_not_at_all() {
+    let mut random = Random(3);
+    for _ in 0..2_000 {
+        let (word, address) = (random.word(), random.address());
+        let whole = decoded(word, address);
+        for room in 0..=ROW + 3 {
+            let mut row = vec![UNTOUCHED_NUMBER; room];
+            let given = decode(word, address, &mut row);
+            let written = match whole {
+                Err(refusal) => {
+                    assert_eq!(given, Err(refusal), "{word:08x}");
+                    0
+                }
+                Ok(_) if room < ROW => {
+                    assert_eq!(given, Err(Refusal::NO_ROOM), "{word:08x}");
+                    0
+                }
+                Ok(whole) => {
+                    assert_eq!(given, Ok(()), "{word:08x}");
+                    assert_eq!(row[..ROW], whole, "{word:08x}");
+                    ROW
+                }
+            };
+            let untouched = |&number: &u64| number == UNTOUCHED_NUMBER;
+            assert!(row[written..].iter().all(untouched), "{word:08x}, {room}");
+        }
+    }
+}
+
+/// What `write` leaves in a buffer with each of these rooms has to be `whole`, or nothing.
+fn whole_or_nothing(
+    whole: &[u8],
+    rooms: impl IntoIterator<Item = usize>,
+    write: impl Fn(&mut [u8]) -> Result<usize, Refusal>,
+) {
+    for room in rooms {
+        let mut out = vec![UNTOUCHED; room];
+        let given = write(&mut out);
+        let written = if room < whole.len() {
+            assert_eq!(given, Err(Refusal::NO_ROOM), "{room}");
+            0
+        } else {
+            assert_eq!(given, Ok(whole.len()), "{room}");
+            assert_eq!(&out[..whole.len()], whole);
+            whole.len()
+        };
+        assert!(
+            out[written..].iter().all(|&byte| byte == UNTOUCHED),
+            "{room}"
+        );
+    }
+}
+
+#[test]
+fn a_line_is_written_whole_or_not_at_all() {
+    let mut random = Random(4);
+    for _ in 0..2_000 {
+        let (word, address) = (random.word(), random.address());
+        let whole = line_of(address, word);
+        whole_or_nothing(&whole, 0..=LINE + 3, |out| line(address, word, out));
+    }
+}
+
+/// A damaged row is refused, or its word is a home word whose row encodes to it too.
+#[test]
+fn damaged_rows_are_refused_or_have_a_word() {
+    let mut random = Random(5);
+    let [mut accepted, mut refused] = [0, 0];
+    for _ in 0..300_000 {
+        let (word, address) = (random.word(), random.address());
+        let Ok(mut row) = decoded(word, address) else {
+            continue;
+        };
+        let place = random.below(ROW as u64) as usize;
+        row[place] = match random.below(4) {
+            0 => random.bits(),
+            1 => random.below(16),
+            2 => row[place].wrapping_add(1),
+            _ => row[place] ^ 1 << random.below(64),
+        };
+        match encode(&row) {
+            Ok(word) => {
+                accepted += 1;
+                assert_eq!(home(word), Ok(word));
+                let again = decoded(word, row[0]).expect("a word that was given is accepted");
+                assert_eq!(encode(&again), Ok(word));
+            }
+            Err(refusal) => {
+                refused += 1;
+                assert_eq!(refusal, Refusal::NO_WORD);
+            }
+        }
+    }
+    assert!(
+        accepted > 1000 && refused > 1000,
+        "{accepted} and {refused}"
+    );
+}
+
+/// Beyond a row's end there are zeros, and nothing after the 49th number is read.
+#[test]
+fn rows_of_every_length_encode() {
+    let mut random = Random(6);
+    for _ in 0..5_000 {
+        let (word, address) = (random.word(), random.address());
+        let Ok(row) = decoded(word, address) else {
+            continue;
+        };
+        for length in 0..=ROW {
+            let mut padded = row;
+            padded[length..].fill(0);
+            assert_eq!(
+                encode(&row[..length]),
+                encode(&padded),
+                "{word:08x}, {length}"
+            );
+        }
+        let longer: Vec<u64> = row.into_iter().chain([1, 2, 3]).collect();
+        assert_eq!(encode(&longer), home(word), "{word:08x}");
+    }
+}
+
+fn listing_of(section: &[u8]) -> Vec<u8> {
+    let mut out = vec![UNTOUCHED; LISTING];
+    let length = listing(section, &mut out).expect("room for every listing");
+    out[..length].to_vec()
+}
+
+/// The sections of `crates/listings`, and what the Rust's answers make of them.
+#[test]
+fn listings_are_those_of_the_rust() {
+    let mut expected = stored("listings/stdout").into_iter();
+    for name in stored_text("listings/args").lines() {
+        let mut section = stored(&format!("listings/data/{name}"));
+        // The program reads so much of a longer input.
+        section.truncate(16_397);
+        let whole = listing_of(&section);
+        let named: Vec<u8> = expected
+            .by_ref()
+            .take(name.len() + 2 + whole.len())
+            .collect();
+        assert_eq!(named, [name.as_bytes(), b":\n", &whole].concat(), "{name}");
+        let rooms = [
+            0,
+            whole.len() - 1,
+            whole.len(),
+            whole.len() + 3,
+            LISTING + 3,
+        ];
+        whole_or_nothing(&whole, rooms, |out| listing(&section, out));
+    }
+    assert_eq!(expected.next(), None);
+}
+
+/// A listing is its header, the lines of its words and its counts.
+#[test]
+fn listings_are_made_of_lines() {
+    let mut random = Random(7);
+    for _ in 0..2_000 {
+        let base = random.bits() as u32 & 0x7fff_fffc;
+        let words: Vec<u32> = (0..random.below(40)).map(|_| random.word()).collect();
+        let mut section = b"RSX\x01\x00".to_vec();
+        section.extend(base.to_le_bytes());
+        section.extend(words.iter().flat_map(|word| word.to_le_bytes()));
+        let count = words.len();
+        let mut expected = format!("RSX 1 {base:08x} {count}\n").into_bytes();
+        for (address, &word) in (base..).step_by(4).zip(&words) {
+            expected.extend(line_of(address.into(), word));
+        }
+        let named = words.iter().filter(|&&word| home(word).is_ok()).count();
+        let refused = count - named;
+        expected.extend(format!("{count} words {named} named {refused} refused\n").bytes());
+        assert_eq!(listing_of(&section), expected);
+
+        // Cut short by less than a word, it is refused, and so is another mark.
+        if count > 0 {
+            let cut = section.len() - 1 - random.below(3) as usize;
+            assert_eq!(listing_of(&section[..cut]), b"refused 7\n");
+        }
+        section[random.below(3) as usize] ^= 1 << random.below(8);
+        assert_eq!(listing_of(&section), b"refused 5\n");
+    }
+}

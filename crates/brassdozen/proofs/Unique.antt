@@ -1,0 +1,24 @@
+-- No second result, and no second last state of a lent buffer, fits a contract. Each line is about the contract itself, as the check
+-- reads it from the source. Assumes nothing.
+use mathlib.Core.Path.{_≡_, _∙_, sym}
+use denote.Ref.{now}
+use Rattle.brassdozen.proofs.brassdozen_decode.Reads as decode
+use Rattle.brassdozen.proofs.brassdozen_encode.Reads as encode
+use Rattle.brassdozen.proofs.brassdozen_home.Reads as home
+use Rattle.brassdozen.proofs.brassdozen_line.Reads as line
+use Rattle.brassdozen.proofs.brassdozen_listing.Reads as listing
+
+pub decode-only : (κs : _) (a : _) (r r′ : _) (s s′ : _) → decode.Post κs a r s → decode.Post κs a r′ s′ → (r ≡ r′) × (now (s .1 .1 .0) ≡ now (s′ .1 .1 .0))
+decode-only κs a r r′ s s′ p q = (p .0 ∙ sym (q .0), p .1 ∙ sym (q .1))
+
+pub encode-only : (κs : _) (a : _) (r r′ : _) (s s′ : _) → encode.Post κs a r s → encode.Post κs a r′ s′ → r ≡ r′
+encode-only κs a r r′ s s′ p q = p ∙ sym q
+
+pub home-only : (κs : _) (a : _) (r r′ : _) (s s′ : _) → home.Post κs a r s → home.Post κs a r′ s′ → r ≡ r′
+home-only κs a r r′ s s′ p q = p ∙ sym q
+
+pub line-only : (κs : _) (a : _) (r r′ : _) (s s′ : _) → line.Post κs a r s → line.Post κs a r′ s′ → (r ≡ r′) × (now (s .1 .1 .0) ≡ now (s′ .1 .1 .0))
+line-only κs a r r′ s s′ p q = (p .0 ∙ sym (q .0), p .1 ∙ sym (q .1))
+
+pub listing-only : (κs : _) (a : _) (r r′ : _) (s s′ : _) → listing.Post κs a r s → listing.Post κs a r′ s′ → (r ≡ r′) × (now (s .1 .0) ≡ now (s′ .1 .0))
+listing-only κs a r r′ s s′ p q = (p .0 ∙ sym (q .0), p .1 ∙ sym (q .1))

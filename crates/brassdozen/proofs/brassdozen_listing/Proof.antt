@@ -1,0 +1,37 @@
+-- `brassdozen::brassdozen_listing` meets its contract. Assumes nothing.
+use borrow.Author.Needs.{needs}
+use mathlib.Core.Path.{ap, _∙_}
+use denote.Ref.{now}
+use native.Mathlib.Omega.{arith}
+use Rattle.packed.specs.Packed.{packed}
+use Rattle.text.specs.declared.Written.{Written}
+use Rattle.listed.specs.Listing.{listingOf}
+use Rattle.listed.proofs.Enough.{listing-fits}
+use Rattle.brassdozen.proofs.From.{no-longer}
+use Rattle.brassdozen.proofs.brassdozen_listing.Statement.{statement}
+use Rattle.brassdozen.proofs.brassdozen_listing.Tie as tie
+
+listing-requires : tie.Need-listing-requires
+listing-requires c κs = search needs
+
+cast-pack : tie.Need-cast-pack
+cast-pack c =
+    let start = c .before .before .before .before .before .before .before in
+    let short = no-longer (listingOf (now (start .args .section))) (now (start .args .out)) (c .before .before .before .listing .ensures .0) in
+    record { fits = omega (arith, short, listing-fits (now (start .args .section))) }
+
+pack-requires : tie.Need-pack-requires
+pack-requires c κs = search needs
+
+same-length : tie.Need-same-length
+same-length c = search needs
+
+returns : tie.Need-returns
+returns c = (
+  c .pack .ensures ∙ ap (λ (w : Written). packed (w .refusal) (w .len)) (c .before .before .before .before .listing .ensures .0),
+  c .before .before .before .before .listing .ensures .1,
+)
+
+pub brassdozen-listing-spec : {M : Type 1} → statement M
+brassdozen-listing-spec =
+    tie.close (tie.spec listing-requires cast-pack pack-requires same-length returns)

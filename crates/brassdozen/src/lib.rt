@@ -1,0 +1,69 @@
+//! What programs in C and Rust call: numbers and slices alone cross such a call, so an instruction value goes as a row of numbers.
+//! `include/brassdozen.h` declares each function to C.
+use a32::decode;
+use encode::encode;
+use home::home;
+use line::line;
+use listed::listing;
+use packed::pack;
+use row::put_row;
+use value::insn_from;
+ghost use mathlib.Core.Path.{_≡_};
+ghost use Rattle.a32.specs.Decode.{decodeOf};
+ghost use Rattle.text.specs.Fits.{answerOf, lastOf};
+ghost use Rattle.spelling.specs.Line.{lineOf};
+ghost use Rattle.listed.specs.Listing.{listingOf};
+ghost use Rattle.brassdozen.specs.Given.{rowRefusal, rowLast, encodedOf, homedOf, writtenOf};
+
+/// Decodes `word` at `addr` into the row of its answer, and gives 0; or gives a refusal's number.
+#[no_mangle]
+pub extern "C" fn brassdozen_decode(word: u32, addr: u64, row: &mut [u64]) -> u8
+    ensures { λ r. ⌜ r ≡ rowRefusal (decodeOf word addr) (now (row .entry)) ⌝ }
+    ensures { λ _. ⌜ now (row .exit) ≡ rowLast (decodeOf word addr) (now (row .entry)) ⌝ }
+{
+    let d = decode(word, addr);
+    if d.refusal == 0 {
+        let written = put_row(row, d.insn);
+        written.refusal
+    } else {
+        d.refusal
+    }
+}
+
+/// The word of a row's value, with a refusal's number above it.
+#[no_mangle]
+pub extern "C" fn brassdozen_encode(row: &[u64]) -> u64
+    ensures { λ r. ⌜ r ≡ encodedOf (now (row .entry)) ⌝ }
+{
+    let e = encode(insn_from(row));
+    pack(e.refusal, e.word)
+}
+
+/// The home word of `word`, with a refusal's number above it.
+#[no_mangle]
+pub extern "C" fn brassdozen_home(word: u32) -> u64
+    ensures { λ r. ⌜ r ≡ homedOf word ⌝ }
+{
+    let h = home(word);
+    pack(h.refusal, h.word)
+}
+
+/// Writes the line of `word` at `addr`, and gives its length, with a refusal's number above it.
+#[no_mangle]
+pub extern "C" fn brassdozen_line(addr: u64, word: u32, out: &mut [u8]) -> u64
+    ensures { λ r. ⌜ r ≡ writtenOf (lineOf addr word) (now (out .entry)) ⌝ }
+    ensures { λ _. ⌜ now (out .exit) ≡ lastOf (lineOf addr word) (now (out .entry)) ⌝ }
+{
+    let w = line(addr, word, out);
+    pack(w.refusal, w.len as u32)
+}
+
+/// Writes the listing of `section`, and gives its length, with a refusal's number above it.
+#[no_mangle]
+pub extern "C" fn brassdozen_listing(section: &[u8], out: &mut [u8]) -> u64
+    ensures { λ r. ⌜ r ≡ writtenOf (listingOf (now (section .entry))) (now (out .entry)) ⌝ }
+    ensures { λ _. ⌜ now (out .exit) ≡ lastOf (listingOf (now (section .entry))) (now (out .entry)) ⌝ }
+{
+    let w = listing(section, out);
+    pack(w.refusal, w.len as u32)
+}

@@ -1,0 +1,86 @@
+/* Brassdozen for C: a decoder, an encoder and a lister of A32, each function proved to meet the contract that stands here in words.
+   docs/LIBRARY.md says how to build the library, and where its proof ends.
+
+   Every function returns, for every word, address and content of what it is lent, and does nothing but write to its `out` or `row`. It keeps
+   nothing, takes nothing but stack (brassdozen_listing says how much) and may be called by several threads at once.
+
+   What the caller owes: a pointer is aligned for its type and not null, even where its length is 0; so many elements behind it are readable,
+   and behind a pointer that is not const writable; and nothing else touches those, the other argument of the same call neither, until the
+   function returns. */
+#ifndef BRASSDOZEN_H
+#define BRASSDOZEN_H
+
+#include <stddef.h>
+#include <stdint.h>
+
+#ifdef __cplusplus
+extern "C" {
+#endif
+
+/* A refusal's number, or 0. */
+enum {
+    BRASSDOZEN_COPROCESSOR = 2, /* decoding: condition below 15 and bits 27:26 = 11 */
+    BRASSDOZEN_NO_ROW = 3,      /* decoding: any other word that names no instruction that is known here */
+    BRASSDOZEN_NO_WORD = 4,     /* encoding: no word has this answer */
+    BRASSDOZEN_NO_ROOM = 10     /* writing: longer than what is lent */
+};
+
+/* Where a function gives a number of 64 bits, the refusal stands above 32 bits of result, which are 0 beside a refusal. */
+static inline unsigned brassdozen_refusal(uint64_t given) { return (unsigned)(given >> 32); }
+static inline uint32_t brassdozen_result(uint64_t given) { return (uint32_t)given; }
+
+enum {
+    BRASSDOZEN_ROW = 49,        /* the numbers of a row */
+    BRASSDOZEN_LINE = 96,       /* no line has more bytes */
+    BRASSDOZEN_LISTING = 393280 /* no listing has more bytes */
+};
+
+/* A row: an instruction value as numbers.
+
+    0  address, 64 bits, as given
+    1  name, by its number (crates/insn/src/name.rt)
+    2  condition, bits 31:28 of the word
+    3  flow: 0 next, 1 jump, 2 jump under a condition, 3 jump through a register, 4 call, 5 call through a register, 6 return, 7 trap
+    4  where a jump or a call goes, or 0
+    5  four operands, of eleven numbers each, 0 where the kind has none:
+
+    +0  kind: 0 none, 1 register, 2 shifted register, 3 shift by a register, 4 shift of a saturate, 5 rotation, 6 signed count,
+        7 unsigned number, 8 status mask, 9 status register, 10 register that is written back, 11 list of registers, 12 address, 13 memory
+    +1  register, or base
+    +2  kind of a shift: 0 lsl, 1 lsr, 2 asr, 3 ror; or status register: 0 the application's, 1 the saved one; or 1 if memory has an index
+    +3  amount of a shift, of a rotation or of the index; or status mask
+    +4  1 if the count or displacement is negative
+    +5  count or displacement, of a negative one its complement: -1 is 1 and 0; or number, list or address
+    +6  index register
+    +7  mode of memory: 0 offset, 1 before, 2 after
+    +8  bytes of memory
+    +9  1 if the displacement reads in base ten
+    +10 1 if a displacement of zero is subtracted */
+
+/* Decodes `word` at `address`. An accepted word's row is written to the first 49 numbers of `row`, and the result is 0. A word that is not
+   accepted is refused with 2 or 3, and else a row of `length` below 49 with 10. A refusal changes no number of `row`, and nothing changes one
+   after the 49. At one address, two accepted words have equal rows exactly if they have one home word. */
+uint8_t brassdozen_decode(uint32_t word, uint64_t address, uint64_t *row, size_t length);
+
+/* The word whose answer, at the row's address, the row is: the home word of all that have it; or 4, exactly if there is none. Every row of
+   every length stands for a value: a number that is too large counts by its low bits, beyond the row's end there are zeros, and what is
+   after the 49th is not read. A row that brassdozen_decode has written gives the home word of its word. */
+uint64_t brassdozen_encode(const uint64_t *row, size_t length);
+
+/* The home word of `word`: of all words with its answer, the one with the bits that are ignored at zero; or 2 or 3, as for decoding. */
+uint64_t brassdozen_home(uint32_t word);
+
+/* Writes the line of `word` at `address`, as the listing has it, newline included, to the start of `out`, and gives its length, at most 96;
+   or 10, exactly if it is longer than `length`. A refusal changes no byte of `out`, and nothing changes one after the line. */
+uint64_t brassdozen_line(uint64_t address, uint32_t word, uint8_t *out, size_t length);
+
+/* Writes the listing of a section to the start of `out`, and gives its length, at most 393,280; or 10, exactly if it is longer than `length`.
+   A section that is not accepted has a listing of one line, "refused N". A refusal changes no byte of `out`, and nothing changes one after
+   the listing. Where `length` is below 393,280, the call has a buffer of that size of its own on the stack. */
+uint64_t brassdozen_listing(const uint8_t *section, size_t bytes, uint8_t *out, size_t length);
+
+#ifdef __cplusplus
+}
+#endif
+
+#endif
