@@ -1,0 +1,39 @@
+//! The time that work takes.
+
+use std::hint::black_box;
+use std::time::Instant;
+
+/// How often each work is done. The best time counts.
+const ROUNDS: usize = 7;
+
+/// Work on a buffer of words, all of them at once.
+pub type Work<'a> = &'a mut dyn FnMut(&[u32]);
+
+/// What `step` does on each word, as work. Its results are added up, so that none is left out.
+pub fn each(mut step: impl FnMut(u32) -> u64) -> impl FnMut(&[u32]) {
+    move |words| {
+        black_box(
+            words
+                .iter()
+                .fold(0u64, |sum, &word| sum.wrapping_add(step(word))),
+        );
+    }
+}
+
+/// The nanoseconds for a word that each work takes, the best of several rounds. They take turns, so that whatever else
+/// the machine does bears on all alike.
+pub fn times<const N: usize>(words: &[u32], mut works: [Work; N]) -> [f64; N] {
+    let mut best = [f64::INFINITY; N];
+    for _ in 0..ROUNDS {
+        for (work, best) in works.iter_mut().zip(&mut best) {
+            *best = best.min(seconds(|| work(words)) * 1e9 / words.len() as f64);
+        }
+    }
+    best
+}
+
+pub fn seconds(work: impl FnOnce()) -> f64 {
+    let start = Instant::now();
+    work();
+    start.elapsed().as_secs_f64()
+}
