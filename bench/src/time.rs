@@ -3,8 +3,11 @@
 use std::hint::black_box;
 use std::time::Instant;
 
-/// How often each work is done. The best time counts.
+/// How often each work is done.
 const ROUNDS: usize = 7;
+
+/// How many words are timed at once: few enough that most of them run through undisturbed.
+const CHUNK: usize = 16_384;
 
 /// Work on a buffer of words, all of them at once.
 pub type Work<'a> = &'a mut dyn FnMut(&[u32]);
@@ -20,16 +23,22 @@ pub fn each(mut step: impl FnMut(u32) -> u64) -> impl FnMut(&[u32]) {
     }
 }
 
-/// The nanoseconds for a word that each work takes, the best of several rounds. They take turns, so that whatever else
-/// the machine does bears on all alike.
+/// The nanoseconds for a word that each work takes: of each chunk of words the best of several rounds. The works take
+/// turns, so that whatever else the machine does bears on all alike.
 pub fn times<const N: usize>(words: &[u32], mut works: [Work; N]) -> [f64; N] {
-    let mut best = [f64::INFINITY; N];
-    for _ in 0..ROUNDS {
-        for (work, best) in works.iter_mut().zip(&mut best) {
-            *best = best.min(seconds(|| work(words)) * 1e9 / words.len() as f64);
+    let mut sums = [0.0; N];
+    for chunk in words.chunks(CHUNK) {
+        let mut best = [f64::INFINITY; N];
+        for _ in 0..ROUNDS {
+            for (work, best) in works.iter_mut().zip(&mut best) {
+                *best = best.min(seconds(|| work(chunk)));
+            }
+        }
+        for (sum, best) in sums.iter_mut().zip(best) {
+            *sum += best;
         }
     }
-    best
+    sums.map(|sum| sum * 1e9 / words.len() as f64)
 }
 
 pub fn seconds(work: impl FnOnce()) -> f64 {
