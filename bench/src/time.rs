@@ -1,7 +1,7 @@
-//! The time that work takes.
+//! The time that work takes: the processor's, so that what else runs on the machine is not counted.
 
+use std::ffi::{c_int, c_long};
 use std::hint::black_box;
-use std::time::Instant;
 
 /// How often each work is done.
 const ROUNDS: usize = 7;
@@ -42,7 +42,32 @@ pub fn times<const N: usize>(words: &[u32], mut works: [Work; N]) -> [f64; N] {
 }
 
 pub fn seconds(work: impl FnOnce()) -> f64 {
-    let start = Instant::now();
+    let start = spent();
     work();
-    start.elapsed().as_secs_f64()
+    spent() - start
+}
+
+#[repr(C)]
+struct Timespec {
+    seconds: i64,
+    nanoseconds: c_long,
+}
+
+unsafe extern "C" {
+    fn clock_gettime(clock: c_int, time: *mut Timespec) -> c_int;
+}
+
+/// The processor time that this thread has taken so far, in seconds.
+fn spent() -> f64 {
+    const CLOCK_THREAD_CPUTIME_ID: c_int = 3;
+    let mut time = Timespec {
+        seconds: 0,
+        nanoseconds: 0,
+    };
+    // Safety: the time is written where it is asked for.
+    assert_eq!(
+        unsafe { clock_gettime(CLOCK_THREAD_CPUTIME_ID, &mut time) },
+        0
+    );
+    time.seconds as f64 + time.nanoseconds as f64 * 1e-9
 }
