@@ -44,24 +44,19 @@ fn run(arguments: &[String]) -> Result<(), String> {
     };
     let inputs = [words::sweep(), words::random(), words::code(code)?];
     decoding(&inputs);
+    groups(&inputs[2]);
     texts(&inputs);
     others(&inputs[2]);
     listings(&inputs[2]);
     process::processes(commands)
 }
 
-/// Decoding alone. A call that does nothing is part of both times.
+/// Decoding alone.
 fn decoding(inputs: &[Words]) {
     println!("| decode, ns a word | words | accepted | proved | Rust | proved / Rust |");
     println!("|---|---:|---:|---:|---:|---:|");
     for input in inputs {
-        let [proved, rust] = times(
-            &input.words,
-            [
-                &mut each(|word| proved::decoded(word, ADDRESS)),
-                &mut each(|word| rust::decoded(word, ADDRESS)),
-            ],
-        );
+        let [proved, rust] = both(&input.words);
         println!(
             "| {} | {} | {}% | {proved:.1} | {rust:.1} | {:.2} |",
             input.what,
@@ -71,6 +66,50 @@ fn decoding(inputs: &[Words]) {
         );
     }
     println!();
+}
+
+fn both(words: &[u32]) -> [f64; 2] {
+    times(
+        words,
+        [
+            &mut each(|word| proved::decoded(word, ADDRESS)),
+            &mut each(|word| rust::decoded(word, ADDRESS)),
+        ],
+    )
+}
+
+/// Where decoding's time goes: the call alone, words whose branches are foreseen, and each group of words by itself.
+fn groups(input: &Words) {
+    println!(
+        "| decode, {}, ns a word | words | proved | Rust |",
+        input.what
+    );
+    println!("|---|---:|---:|---:|");
+    let [call] = times(&input.words, [&mut each(|word| nothing(word, ADDRESS))]);
+    println!(
+        "| a call that does nothing | {} | {call:.1} | {call:.1} |",
+        input.words.len()
+    );
+    let mut sorted = input.words.clone();
+    sorted.sort_by_key(|word| (word & 0x0ff0_00f0, word >> 28));
+    let by_group = (0..8u32).map(|group| {
+        let mut words = input.words.clone();
+        words.retain(|word| word >> 25 & 0b111 == group && word >> 28 < 15);
+        (format!("27:25 = {group:03b}"), words)
+    });
+    let sorted = ("all, sorted by 27:20 and 7:4".to_string(), sorted);
+    for (what, words) in [sorted].into_iter().chain(by_group) {
+        if !words.is_empty() {
+            let [proved, rust] = both(&words);
+            println!("| {what} | {} | {proved:.1} | {rust:.1} |", words.len());
+        }
+    }
+    println!();
+}
+
+#[inline(never)]
+extern "C" fn nothing(word: u32, address: u64) -> u64 {
+    std::hint::black_box(u64::from(word) ^ address)
 }
 
 /// The text of a word: a line here, mnemonic and operands of the peers. Accepted words alone, which all have texts.
