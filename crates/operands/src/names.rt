@@ -5,30 +5,13 @@ use insn::Reg;
 use insn::Shift;
 use insn::Status;
 use text::put_entry;
+ghost use mathlib.Core.Path.{_≡_};
+ghost use Prim.Native.Nat.{_%_};
 ghost use Rattle.insn.specs.Numbers.{statusNumber};
+ghost use Rattle.text.specs.Entry.{entryOf};
 ghost use Rattle.text.specs.Put.{Room, Put};
 ghost use Rattle.spelling.specs.Names.{roots, suffixes, masks, sources, entry};
 ghost use Rattle.spelling.specs.Line.{registerOf, shiftOf, flowOf};
-
-/// The roots, by name number.
-const ROOTS: [u8; 1032] = *b"\
-    and     eor     sub     rsb     add     adc     sbc     rsc     \
-    tst     teq     cmp     cmn     orr     mov     bic     mvn     \
-    ands    eors    subs    rsbs    adds    adcs    sbcs    rscs    \
-    orrs    movs    bics    mvns    lsl     lsr     asr     ror     \
-    lsls    lsrs    asrs    rors    rrxs    rrx     mrs     msr     \
-    bx      clz     bxj     blx     qadd    qsub    qdadd   qdsub   \
-    bkpt    muls    mul     mlas    mla     umaal   mls     umull   \
-    umulls  umlal   umlals  smull   smulls  smlal   smlals  strex   \
-    ldrex   strexb  ldrexb  strexh  ldrexh  strh    ldrh    ldrd    \
-    ldrsb   strd    ldrsh   movt    movw    nop     yield   wfe     \
-    wfi     sev     ldr     ldrb    str     strb    ldrt    ldrbt   \
-    strt    strbt   udf     sbfx    ubfx    bfc     bfi     sdiv    \
-    udiv    ssat    usat    rev     rev16   rbit    revsh   sxtb16  \
-    sxtab16 sxtb    sxtab   sxth    sxtah   uxtb16  uxtab16 uxtb    \
-    uxtab   uxth    uxtah   ldmda   ldm     ldmdb   ldmib   stmda   \
-    stm     stmdb   stmib   pop     push    bl      b       pld     \
-    pldw    ";
 
 /// By condition.
 const SUFFIXES: [u8; 32] = *b"\
@@ -67,7 +50,52 @@ pub fn put_root(out: &mut [u8], at: usize, name: u16) -> usize
     requires { ⌜ Room (now out) at (entry roots name) ⌝ }
     ensures { λ r. ⌜ Put (now (out .entry)) at (entry roots name) r (now (out .exit)) ⌝ }
 {
-    put_entry(out, at, &ROOTS, 8, name as usize)
+    let row = roots_with(name);
+    put_entry(out, at, &row, 8, (name % 4) as usize)
+}
+
+/// The roots, by name number: the row of four that has `name`, or one of blanks. A table's bytes are laid down anew at each use, so that a
+/// large one is in rows.
+fn roots_with(name: u16) -> [u8; 32]
+    ensures { λ r. ⌜ entryOf r 8 (name % 4) ≡ entry roots name ⌝ }
+{
+    let row = name / 4;
+    match row {
+        0 => *b"and     eor     sub     rsb     ",
+        1 => *b"add     adc     sbc     rsc     ",
+        2 => *b"tst     teq     cmp     cmn     ",
+        3 => *b"orr     mov     bic     mvn     ",
+        4 => *b"ands    eors    subs    rsbs    ",
+        5 => *b"adds    adcs    sbcs    rscs    ",
+        6 => *b"orrs    movs    bics    mvns    ",
+        7 => *b"lsl     lsr     asr     ror     ",
+        8 => *b"lsls    lsrs    asrs    rors    ",
+        9 => *b"rrxs    rrx     mrs     msr     ",
+        10 => *b"bx      clz     bxj     blx     ",
+        11 => *b"qadd    qsub    qdadd   qdsub   ",
+        12 => *b"bkpt    muls    mul     mlas    ",
+        13 => *b"mla     umaal   mls     umull   ",
+        14 => *b"umulls  umlal   umlals  smull   ",
+        15 => *b"smulls  smlal   smlals  strex   ",
+        16 => *b"ldrex   strexb  ldrexb  strexh  ",
+        17 => *b"ldrexh  strh    ldrh    ldrd    ",
+        18 => *b"ldrsb   strd    ldrsh   movt    ",
+        19 => *b"movw    nop     yield   wfe     ",
+        20 => *b"wfi     sev     ldr     ldrb    ",
+        21 => *b"str     strb    ldrt    ldrbt   ",
+        22 => *b"strt    strbt   udf     sbfx    ",
+        23 => *b"ubfx    bfc     bfi     sdiv    ",
+        24 => *b"udiv    ssat    usat    rev     ",
+        25 => *b"rev16   rbit    revsh   sxtb16  ",
+        26 => *b"sxtab16 sxtb    sxtab   sxth    ",
+        27 => *b"sxtah   uxtb16  uxtab16 uxtb    ",
+        28 => *b"uxtab   uxth    uxtah   ldmda   ",
+        29 => *b"ldm     ldmdb   ldmib   stmda   ",
+        30 => *b"stm     stmdb   stmib   pop     ",
+        31 => *b"push    bl      b       pld     ",
+        32 => *b"pldw                            ",
+        _ => [b' '; 32],
+    }
 }
 
 pub fn put_suffix(out: &mut [u8], at: usize, cond: Cond) -> usize

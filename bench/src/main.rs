@@ -1,0 +1,194 @@
+//! The benchmark: the proved code beside the Rust that it is carried over from, and beside other disassemblers.
+
+// The Rust's files take `Addr` from a crate of this name.
+extern crate self as e5r_core;
+
+mod addr;
+mod peers;
+mod process;
+mod proved;
+mod rust;
+mod time;
+mod words;
+
+// The Rust's files, with the shims among them: they have more than is called here.
+#[allow(dead_code, unused_imports, clippy::default_constructed_unit_structs)]
+mod arm;
+#[allow(dead_code)]
+mod insn;
+
+pub use addr::Addr;
+
+use std::env;
+use std::process::ExitCode;
+
+use peers::{Capstone, Llvm};
+use time::{each, seconds, times};
+use words::{ADDRESS, Words};
+
+fn main() -> ExitCode {
+    let arguments: Vec<String> = env::args().skip(1).collect();
+    match run(&arguments) {
+        Ok(()) => ExitCode::SUCCESS,
+        Err(why) => {
+            eprintln!("bench: {why}");
+            ExitCode::from(2)
+        }
+    }
+}
+
+/// The arguments are a file of code, and the commands that list its first words, as `process` reads them.
+fn run(arguments: &[String]) -> Result<(), String> {
+    let [code, commands @ ..] = arguments else {
+        return Err("a file of code is to be named".to_string());
+    };
+    let inputs = [words::sweep(), words::random(), words::code(code)?];
+    decoding(&inputs);
+    groups(&inputs[2]);
+    texts(&inputs);
+    others(&inputs[2]);
+    listings(&inputs[2]);
+    process::processes(commands)
+}
+
+/// Decoding alone.
+fn decoding(inputs: &[Words]) {
+    println!("| decode, ns a word | words | accepted | proved | Rust | proved / Rust |");
+    println!("|---|---:|---:|---:|---:|---:|");
+    for input in inputs {
+        let [proved, rust] = both(&input.words);
+        println!(
+            "| {} | {} | {}% | {proved:.1} | {rust:.1} | {:.2} |",
+            input.what,
+            input.words.len(),
+            input.share(),
+            proved / rust
+        );
+    }
+    println!();
+}
+
+fn both(words: &[u32]) -> [f64; 2] {
+    times(
+        words,
+        [
+            &mut each(|word| proved::decoded(word, ADDRESS)),
+            &mut each(|word| rust::decoded(word, ADDRESS)),
+        ],
+    )
+}
+
+/// Where decoding's time goes: the call alone, words whose branches are foreseen, and each group of words by itself.
+fn groups(input: &Words) {
+    println!(
+        "| decode, {}, ns a word | words | proved | Rust |",
+        input.what
+    );
+    println!("|---|---:|---:|---:|");
+    let [call] = times(&input.words, [&mut each(|word| nothing(word, ADDRESS))]);
+    println!(
+        "| a call that does nothing | {} | {call:.1} | {call:.1} |",
+        input.words.len()
+    );
+    let mut sorted = input.words.clone();
+    sorted.sort_by_key(|word| (word & 0x0ff0_00f0, word >> 28));
+    let by_group = (0..8u32).map(|group| {
+        let mut words = input.words.clone();
+        words.retain(|word| word >> 25 & 0b111 == group && word >> 28 < 15);
+        (format!("27:25 = {group:03b}"), words)
+    });
+    let sorted = ("all, sorted by 27:20 and 7:4".to_string(), sorted);
+    for (what, words) in [sorted].into_iter().chain(by_group) {
+        if !words.is_empty() {
+            let [proved, rust] = both(&words);
+            println!("| {what} | {} | {proved:.1} | {rust:.1} |", words.len());
+        }
+    }
+    println!();
+}
+
+#[inline(never)]
+extern "C" fn nothing(word: u32, address: u64) -> u64 {
+    std::hint::black_box(u64::from(word) ^ address)
+}
+
+/// The text of a word: a line here, mnemonic and operands of the peers. Accepted words alone, which all have texts.
+fn texts(inputs: &[Words]) {
+    println!("| text, ns a word | words | proved line | capstone | LLVM | line / fastest peer |");
+    println!("|---|---:|---:|---:|---:|---:|");
+    let (mut capstone, mut llvm) = (Capstone::new(), Llvm::new());
+    let mut line = [0; 96];
+    for input in inputs {
+        let accepted = input.accepted();
+        let words = &accepted[..accepted.len().min(1 << 20)];
+        let [proved, capstone, llvm] = times(
+            words,
+            [
+                &mut each(|word| proved::lined(ADDRESS, word, &mut line) as u64),
+                &mut each(|word| capstone.text(word, ADDRESS).into()),
+                &mut each(|word| llvm.text(word, ADDRESS).into()),
+            ],
+        );
+        println!(
+            "| {} | {} | {proved:.1} | {capstone:.1} | {llvm:.1} | {:.2} |",
+            input.what,
+            words.len(),
+            proved / capstone.min(llvm)
+        );
+    }
+    println!();
+}
+
+/// What has no counterpart among the others.
+fn others(input: &Words) {
+    let accepted = input.accepted();
+    let [decoded, trip, homed] = times(
+        &accepted,
+        [
+            &mut each(|word| proved::decoded(word, ADDRESS)),
+            &mut each(|word| proved::trip(word, ADDRESS)),
+            &mut each(|word| proved::homed(word)),
+        ],
+    );
+    println!("| {}, accepted, ns a word | proved |", input.what);
+    println!("|---|---:|");
+    println!("| decode | {decoded:.1} |");
+    println!("| decode and encode | {trip:.1} |");
+    println!("| encode: the difference | {:.1} |", trip - decoded);
+    println!("| home word | {homed:.1} |");
+    println!();
+}
+
+/// Whole listings, by the number of words.
+fn listings(input: &Words) {
+    println!("| listing of {} | microseconds | ns a word |", input.what);
+    println!("|---|---:|---:|");
+    let mut out = vec![0; 393_280];
+    for count in [1, 4, 16, 64, 256, 1024, 4096] {
+        let section = section(&input.words[..count]);
+        let rounds = 200_000 / count;
+        let best = (0..7)
+            .map(|_| {
+                seconds(|| {
+                    for _ in 0..rounds {
+                        std::hint::black_box(proved::listed(&section, &mut out));
+                    }
+                }) / rounds as f64
+            })
+            .fold(f64::INFINITY, f64::min);
+        println!(
+            "| {count} words | {:.2} | {:.1} |",
+            best * 1e6,
+            best * 1e9 / count as f64
+        );
+    }
+    println!();
+}
+
+/// The section of these words.
+fn section(words: &[u32]) -> Vec<u8> {
+    let mut section = b"RSX\x01\x00".to_vec();
+    section.extend((ADDRESS as u32).to_le_bytes());
+    section.extend(words.iter().flat_map(|word| word.to_le_bytes()));
+    section
+}
