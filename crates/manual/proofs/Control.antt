@@ -1,0 +1,174 @@
+-- Multiplies, exclusives, halfword multiplies and the miscellaneous instructions beside the manual. Assumes nothing.
+use mathlib.Core.Path.{_≡_, refl, ap, sym}
+use mathlib.Core.Bool.{true, false}
+use Prim.Native.Nat.{ℕ, _*_, _+_}
+use borrow.Author.Tests.{eqb-true}
+use lib.Dec.{eqb}
+use Rattle.word.specs.Field.{field}
+use Rattle.insn.specs.declared.Decoded.{Decoded}
+use Rattle.a32.specs.Decode as D
+use Rattle.a32.specs.Decode.{decodeOf, groupOf, dpMiscOf, controlOf}
+use Rattle.manual.specs.A5 as A
+use Rattle.manual.specs.A8.{saidOf, pageOf}
+use Rattle.manual.specs.Departures.{standingOf}
+use Rattle.manual.proofs.Fields.{HeldAt, holds, ops, controls, lows, groups, bits, rn-bits, by-field, split, conditions, _also_}
+
+module _ (w addr : ℕ) (cond : eqb (field w 28 4) 15 ≡ false) (group : field w 25 3 ≡ 0) where
+  -- 7:4 = 1001, by 24:20
+  pub multiplies : field w 4 4 ≡ 9 → HeldAt w addr
+  unfolding decodeOf groupOf dpMiscOf D.extraOf saidOf pageOf standingOf A.tableRow A.dataProcessing A.multiply A.synchronization
+  multiplies low =
+      by-field w 20 5
+      ((λ e. simp (ops, lows, groups, cond, group, low, e) (holds (simp (ops, bits, e)))) also
+      (λ e. simp (ops, lows, groups, cond, group, low, e) (holds (simp (ops, bits, e)))) also
+      (λ e. simp (ops, lows, groups, cond, group, low, e) (holds (simp (ops, bits, e)))) also
+      (λ e. simp (ops, lows, groups, cond, group, low, e) (holds (simp (ops, bits, e)))) also
+      (λ e. simp (ops, lows, groups, cond, group, low, e) (holds refl)) also
+      (λ e. simp (ops, lows, groups, cond, group, low, e) (holds (simp cond))) also
+      (λ e. simp (ops, lows, groups, cond, group, low, e) (holds refl)) also
+      (λ e. simp (ops, lows, groups, cond, group, low, e) (holds (simp cond))) also
+      (λ e. simp (ops, lows, groups, cond, group, low, e) (holds (simp (ops, bits, e)))) also
+      (λ e. simp (ops, lows, groups, cond, group, low, e) (holds (simp (ops, bits, e)))) also
+      (λ e. simp (ops, lows, groups, cond, group, low, e) (holds (simp (ops, bits, e)))) also
+      (λ e. simp (ops, lows, groups, cond, group, low, e) (holds (simp (ops, bits, e)))) also
+      (λ e. simp (ops, lows, groups, cond, group, low, e) (holds (simp (ops, bits, e)))) also
+      (λ e. simp (ops, lows, groups, cond, group, low, e) (holds (simp (ops, bits, e)))) also
+      (λ e. simp (ops, lows, groups, cond, group, low, e) (holds (simp (ops, bits, e)))) also
+      (λ e. simp (ops, lows, groups, cond, group, low, e) (holds (simp (ops, bits, e)))) also
+      (λ e. simp (ops, lows, groups, cond, group, low, e) (holds refl)) also
+      (λ e. simp (ops, lows, groups, cond, group, low, e) (holds (simp cond))) also
+      (λ e. simp (ops, lows, groups, cond, group, low, e) (holds (simp cond))) also
+      (λ e. simp (ops, lows, groups, cond, group, low, e) (holds (simp cond))) also
+      (λ e. simp (ops, lows, groups, cond, group, low, e) (holds refl)) also
+      (λ e. simp (ops, lows, groups, cond, group, low, e) (holds (simp cond))) also
+      (λ e. simp (ops, lows, groups, cond, group, low, e) (holds (simp cond))) also
+      (λ e. simp (ops, lows, groups, cond, group, low, e) (holds (simp cond))) also
+      (λ e. simp (ops, lows, groups, cond, group, low, e) (holds refl)) also
+      (λ e. simp (ops, lows, groups, cond, group, low, e) (holds refl)) also
+      (λ e. simp (ops, lows, groups, cond, group, low, e) (holds refl)) also
+      (λ e. simp (ops, lows, groups, cond, group, low, e) (holds refl)) also
+      (λ e. simp (ops, lows, groups, cond, group, low, e) (holds refl)) also
+      (λ e. simp (ops, lows, groups, cond, group, low, e) (holds refl)) also
+      (λ e. simp (ops, lows, groups, cond, group, low, e) (holds refl)) also
+      (λ e. simp (ops, lows, groups, cond, group, low, e) (holds refl)) also tt)
+
+  -- 24:23 = 10 with bit 20 clear, by 22:21
+  module _ (op : field w 23 2 ≡ 2) (s : field w 20 1 ≡ 0) where
+    -- any of the fields: four rows of the table are one page
+    msr-fields : field w 4 4 ≡ 0 → field w 21 2 ≡ 1 → field w 9 1 ≡ 0 → HeldAt w addr
+    unfolding decodeOf groupOf dpMiscOf D.plainOf controlOf saidOf pageOf standingOf A.tableRow A.dataProcessing A.miscellaneous
+    msr-fields low e n =
+        by-field w 16 2
+        ((λ f. simp (controls, lows, groups, cond, group, op, s, low, e, n, rn-bits, f) (holds (simp (controls, e)))) also
+        (λ f. simp (controls, lows, groups, cond, group, op, s, low, e, n, rn-bits, f) (holds (simp (controls, e)))) also
+        (λ f. simp (controls, lows, groups, cond, group, op, s, low, e, n, rn-bits, f) (holds (simp (controls, e)))) also
+        (λ f. simp (controls, lows, groups, cond, group, op, s, low, e, n, rn-bits, f) (holds (simp (controls, e)))) also tt)
+
+    pub status : field w 4 4 ≡ 0 → HeldAt w addr
+    unfolding decodeOf groupOf dpMiscOf D.plainOf controlOf saidOf pageOf standingOf A.tableRow A.dataProcessing A.miscellaneous
+    status low =
+        by-field w 21 2
+        (
+        (λ e. by-field w 9 1 ((λ n. simp (controls, lows, groups, cond, group, op, s, low, e, n) (holds (simp (controls, e)))) also (λ n. simp (controls, lows, groups, cond, group, op, s, low, e, n) (holds refl)) also tt)) also
+        (λ e. by-field w 9 1 ((λ n. msr-fields low e n) also (λ n. simp (controls, lows, groups, cond, group, op, s, low, e, n) (holds refl)) also tt)) also
+        (λ e. by-field w 9 1 ((λ n. simp (controls, lows, groups, cond, group, op, s, low, e, n) (holds (simp (controls, e)))) also (λ n. simp (controls, lows, groups, cond, group, op, s, low, e, n) (holds refl)) also tt)) also
+        (λ e. by-field w 9 1 ((λ n. simp (controls, lows, groups, cond, group, op, s, low, e, n) (holds (simp (controls, e)))) also (λ n. simp (controls, lows, groups, cond, group, op, s, low, e, n) (holds refl)) also tt)) also tt)
+
+    pub exchange-and-zeros : field w 4 4 ≡ 1 → HeldAt w addr
+    unfolding decodeOf groupOf dpMiscOf D.plainOf controlOf saidOf pageOf standingOf A.tableRow A.dataProcessing A.miscellaneous
+    exchange-and-zeros low =
+        by-field w 21 2
+        ((λ e. simp (controls, lows, groups, cond, group, op, s, low, e) (holds (simp cond))) also
+        (λ e. simp (controls, lows, groups, cond, group, op, s, low, e) (holds refl)) also
+        (λ e. simp (controls, lows, groups, cond, group, op, s, low, e) (holds (simp cond))) also
+        (λ e. simp (controls, lows, groups, cond, group, op, s, low, e) (holds refl)) also tt)
+
+    pub jazelle : field w 4 4 ≡ 2 → HeldAt w addr
+    unfolding decodeOf groupOf dpMiscOf D.plainOf controlOf saidOf pageOf standingOf A.tableRow A.dataProcessing A.miscellaneous
+    jazelle low =
+        by-field w 21 2
+        ((λ e. simp (controls, lows, groups, cond, group, op, s, low, e) (holds (simp cond))) also
+        (λ e. simp (controls, lows, groups, cond, group, op, s, low, e) (holds refl)) also
+        (λ e. simp (controls, lows, groups, cond, group, op, s, low, e) (holds (simp cond))) also
+        (λ e. simp (controls, lows, groups, cond, group, op, s, low, e) (holds (simp cond))) also tt)
+
+    pub exchange-link : field w 4 4 ≡ 3 → HeldAt w addr
+    unfolding decodeOf groupOf dpMiscOf D.plainOf controlOf saidOf pageOf standingOf A.tableRow A.dataProcessing A.miscellaneous
+    exchange-link low =
+        by-field w 21 2
+        ((λ e. simp (controls, lows, groups, cond, group, op, s, low, e) (holds (simp cond))) also
+        (λ e. simp (controls, lows, groups, cond, group, op, s, low, e) (holds refl)) also
+        (λ e. simp (controls, lows, groups, cond, group, op, s, low, e) (holds (simp cond))) also
+        (λ e. simp (controls, lows, groups, cond, group, op, s, low, e) (holds (simp cond))) also tt)
+
+    pub none : field w 4 4 ≡ 4 → HeldAt w addr
+    unfolding decodeOf groupOf dpMiscOf D.plainOf controlOf saidOf pageOf standingOf A.tableRow A.dataProcessing A.miscellaneous
+    none low =
+        by-field w 21 2
+        ((λ e. simp (controls, lows, groups, cond, group, op, s, low, e) (holds (simp cond))) also
+        (λ e. simp (controls, lows, groups, cond, group, op, s, low, e) (holds (simp cond))) also
+        (λ e. simp (controls, lows, groups, cond, group, op, s, low, e) (holds (simp cond))) also
+        (λ e. simp (controls, lows, groups, cond, group, op, s, low, e) (holds (simp cond))) also tt)
+
+    pub saturating : field w 4 4 ≡ 5 → HeldAt w addr
+    unfolding decodeOf groupOf dpMiscOf D.plainOf controlOf saidOf pageOf standingOf A.tableRow A.dataProcessing A.miscellaneous A.saturating
+    saturating low =
+        by-field w 21 2
+        ((λ e. simp (controls, lows, groups, cond, group, op, s, low, e) (holds refl)) also
+        (λ e. simp (controls, lows, groups, cond, group, op, s, low, e) (holds refl)) also
+        (λ e. simp (controls, lows, groups, cond, group, op, s, low, e) (holds refl)) also
+        (λ e. simp (controls, lows, groups, cond, group, op, s, low, e) (holds refl)) also tt)
+
+    pub return : field w 4 4 ≡ 6 → HeldAt w addr
+    unfolding decodeOf groupOf dpMiscOf D.plainOf controlOf saidOf pageOf standingOf A.tableRow A.dataProcessing A.miscellaneous
+    return low =
+        by-field w 21 2
+        ((λ e. simp (controls, lows, groups, cond, group, op, s, low, e) (holds (simp cond))) also
+        (λ e. simp (controls, lows, groups, cond, group, op, s, low, e) (holds (simp cond))) also
+        (λ e. simp (controls, lows, groups, cond, group, op, s, low, e) (holds (simp cond))) also
+        (λ e. simp (controls, lows, groups, cond, group, op, s, low, e) (holds refl)) also tt)
+
+    pub breakpoint : field w 4 4 ≡ 7 → HeldAt w addr
+    unfolding decodeOf groupOf dpMiscOf D.plainOf controlOf saidOf pageOf standingOf A.tableRow A.dataProcessing A.miscellaneous
+    breakpoint low =
+        by-field w 21 2
+        ((λ e. simp (controls, lows, groups, cond, group, op, s, low, e) (holds (simp cond))) also
+        (λ e. split (eqb (field w 28 4) 14) (λ c. simp (controls, lows, groups, cond, group, op, s, low, e) (holds (simp (c, eqb-true (field w 28 4) 14 c)))) (λ c. simp (controls, lows, groups, cond, group, op, s, low, e) (holds (simp c (refl, conditions c))))) also
+        (λ e. simp (controls, lows, groups, cond, group, op, s, low, e) (holds refl)) also
+        (λ e. simp (controls, lows, groups, cond, group, op, s, low, e) (holds refl)) also tt)
+
+    pub halves-8 : field w 4 4 ≡ 8 → HeldAt w addr
+    unfolding decodeOf groupOf dpMiscOf D.plainOf controlOf saidOf pageOf standingOf A.tableRow A.dataProcessing A.halfwordMultiply
+    halves-8 low =
+        by-field w 21 2
+        ((λ e. simp (controls, lows, groups, cond, group, op, s, low, e) (holds refl)) also
+        (λ e. simp (controls, lows, groups, cond, group, op, s, low, e) (holds refl)) also
+        (λ e. simp (controls, lows, groups, cond, group, op, s, low, e) (holds refl)) also
+        (λ e. simp (controls, lows, groups, cond, group, op, s, low, e) (holds refl)) also tt)
+
+    pub halves-10 : field w 4 4 ≡ 10 → HeldAt w addr
+    unfolding decodeOf groupOf dpMiscOf D.plainOf controlOf saidOf pageOf standingOf A.tableRow A.dataProcessing A.halfwordMultiply
+    halves-10 low =
+        by-field w 21 2
+        ((λ e. simp (controls, lows, groups, cond, group, op, s, low, e) (holds refl)) also
+        (λ e. simp (controls, lows, groups, cond, group, op, s, low, e) (holds refl)) also
+        (λ e. simp (controls, lows, groups, cond, group, op, s, low, e) (holds refl)) also
+        (λ e. simp (controls, lows, groups, cond, group, op, s, low, e) (holds refl)) also tt)
+
+    pub halves-12 : field w 4 4 ≡ 12 → HeldAt w addr
+    unfolding decodeOf groupOf dpMiscOf D.plainOf controlOf saidOf pageOf standingOf A.tableRow A.dataProcessing A.halfwordMultiply
+    halves-12 low =
+        by-field w 21 2
+        ((λ e. simp (controls, lows, groups, cond, group, op, s, low, e) (holds refl)) also
+        (λ e. simp (controls, lows, groups, cond, group, op, s, low, e) (holds refl)) also
+        (λ e. simp (controls, lows, groups, cond, group, op, s, low, e) (holds refl)) also
+        (λ e. simp (controls, lows, groups, cond, group, op, s, low, e) (holds refl)) also tt)
+
+    pub halves-14 : field w 4 4 ≡ 14 → HeldAt w addr
+    unfolding decodeOf groupOf dpMiscOf D.plainOf controlOf saidOf pageOf standingOf A.tableRow A.dataProcessing A.halfwordMultiply
+    halves-14 low =
+        by-field w 21 2
+        ((λ e. simp (controls, lows, groups, cond, group, op, s, low, e) (holds refl)) also
+        (λ e. simp (controls, lows, groups, cond, group, op, s, low, e) (holds refl)) also
+        (λ e. simp (controls, lows, groups, cond, group, op, s, low, e) (holds refl)) also
+        (λ e. simp (controls, lows, groups, cond, group, op, s, low, e) (holds refl)) also tt)

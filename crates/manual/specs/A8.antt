@@ -1,0 +1,466 @@
+-- DDI 0406C, chapter A8: from the row that chapter A5's tables lead to, by each page's "SEE", to the page that reads the word, and what it
+-- reads. The pages stand in the order of A5's tables. A row without a page here is named and not read.
+--
+-- Bits that a page draws in parentheses should be as drawn, and are not tested: 19:16 of MOV, MVN and the shifts; 15:12 of the compares, of MUL,
+-- SDIV, UDIV, MSR and the hints; 19:16, 11:10, 8 and 3:0 of MRS; 11:10 and 8 of MSR; 19:8 of BX, BXJ and BLX; 19:16 and 11:8 of CLZ and the
+-- reversals; 11:8 of the saturating adds, the exclusives, the hints and the extra forms by register, and 3:0 of the exclusive loads; 9:8 of the
+-- extends; 24 and 21 of the loads from R[15]; 15:12 of the preloads; 19:8 of CLREX and the barriers, and 3:0 of CLREX.
+use mathlib.Core.Bool.{Bool, true, false, not}
+use mathlib.Core.List.{List, [], _∷_, _++_}
+use Prim.Native.Nat.{ℕ, _+_, _-_, _*_, _%_, _^_}
+use Prim.Native.String.{String}
+use lib.Count.{onesIn}
+use lib.Dec.{eqb, leb}
+use lib.IntN.{pos}
+use lib.Text.{eqt}
+use Rattle.word.specs.Choice.{pick, both}
+use Rattle.word.specs.Field.{field}
+use Rattle.insn.specs.Answer.{insnOf, places, accepted}
+use Rattle.insn.specs.Name as N
+use Rattle.insn.specs.declared.AddrMode.{AddrMode}
+use Rattle.insn.specs.declared.AddrMode.the-variants.{Offset, PostIndex}
+use Rattle.insn.specs.declared.Decoded.{Decoded}
+use Rattle.insn.specs.declared.Index.the-variants.{Absent}
+use Rattle.insn.specs.declared.Flow.{Flow}
+use Rattle.insn.specs.declared.Flow.the-variants.{Next, Branch, CondBranch, IndirectBranch, Call, IndirectCall, Return, Trap}
+use Rattle.insn.specs.declared.Operand.{Operand}
+use Rattle.insn.specs.declared.Operand.the-variants.{Register, Count, Number, StatusMask, StatusSource, WriteBack, Address}
+use Rattle.insn.specs.declared.Operand.the-variants as Op
+use Rattle.insn.specs.declared.Status.the-variants.{Apsr, Spsr}
+use Rattle.manual.specs.A5.{tableRow}
+use Rattle.manual.specs.Reads.{isSet, R, setflags, writesPC, branchesTo, DecodeImmShift, shifted, registerShifted, shiftCount, constant, SignExtend, addressing, offset, isMinusZero, memory, isPost, indexed, saturateShift, rotation}
+
+abbrev pub isAmong : String → List String → Bool
+isAmong row [] = false
+isAmong row (s ∷ ss) = pick (eqt row s) true (isAmong row ss)
+
+-- a page's "SEE": from any of these rows, where the test holds, to another page
+pub record See : Type 0 where
+  pub rows : List String
+  pub holds : Bool
+  pub to : String
+
+abbrev pub seeOf : String → List See → String
+seeOf row [] = row
+seeOf row (s ∷ ss) = pick (both (isAmong row (s .rows)) (s .holds)) (s .to) (seeOf row ss)
+
+-- the pages that have "if Rd == '1111' && S == '1' then SEE SUBS PC, LR and related instructions"
+abbrev pub returning : List String
+returning =
+    "AND (register)" ∷ "EOR (register)" ∷ "SUB (register)" ∷ "RSB (register)" ∷ "ADD (register)" ∷ "ADC (register)" ∷ "SBC (register)" ∷
+    "RSC (register)" ∷ "ORR (register)" ∷ "MOV (register, ARM)" ∷ "LSL (immediate)" ∷ "LSR (immediate)" ∷ "ASR (immediate)" ∷
+    "ROR (immediate)" ∷ "RRX" ∷ "BIC (register)" ∷ "MVN (register)" ∷ "AND (immediate)" ∷ "EOR (immediate)" ∷
+    "SUB (immediate, ARM)" ∷ "RSB (immediate)" ∷ "ADD (immediate, ARM)" ∷ "ADC (immediate)" ∷ "SBC (immediate)" ∷ "RSC (immediate)" ∷
+    "ORR (immediate)" ∷ "MOV (immediate)" ∷ "BIC (immediate)" ∷ "MVN (immediate)" ∷ "ADR" ∷ []
+
+-- "BitCount(register_list) < 2"
+unfoldable pub fewerThanTwo : ℕ → Bool
+fewerThanTwo w = not (leb 2 (onesIn 16 (field w 0 16)))
+
+-- "Rn == '1101'", P, U and W as given, "imm12 == '000000000100'"
+unfoldable pub oneWord : ℕ → ℕ → ℕ → ℕ → Bool
+oneWord w p u wb =
+    both (eqb (field w 16 4) 13)
+    (both (eqb (field w 24 1) p)
+    (both (eqb (field w 23 1) u)
+    (both (eqb (field w 21 1) wb) (eqb (field w 0 12) 4))))
+
+-- "SEE SUBS PC, LR and related instructions", and the others
+abbrev pub seeReturn : ℕ → See
+seeReturn w =
+    record { rows = returning; holds = both (eqb (field w 12 4) 15) (isSet w 20); to = "SUBS PC, LR and related instructions" }
+
+abbrev pub otherSees : ℕ → List See
+otherSees w =
+    -- A8.8.12 has bit 20 clear; A8.8.5 and A8.8.222: "if Rn == '1111' && S == '0' then SEE ADR"
+    record { rows = "ADR" ∷ []; holds = both (isSet w 20) (isSet w 23); to = "ADD (immediate, ARM)" } ∷
+    record { rows = "ADR" ∷ []; holds = isSet w 20; to = "SUB (immediate, ARM)" } ∷
+    -- A8.8.204 and A8.8.63
+    record { rows = "STR (immediate, ARM)" ∷ []; holds = oneWord w 1 0 1; to = "PUSH, one register" } ∷
+    record { rows = "LDR (immediate, ARM)" ∷ []; holds = oneWord w 0 1 0; to = "POP, one register" } ∷
+    -- A8.8.131 and A8.8.133
+    record { rows = "POP" ∷ []; holds = fewerThanTwo w; to = "LDM" } ∷
+    record { rows = "PUSH" ∷ []; holds = fewerThanTwo w; to = "STMDB" } ∷
+    []
+
+abbrev pub sees : ℕ → List See
+sees w = seeReturn w ∷ otherSees w
+
+-- the page that reads a word of a row; and the one that would, were there no SUBS PC, LR
+unfoldable pub pageOf : String → ℕ → String
+pageOf row w = seeOf row (sees w)
+
+unfoldable pub otherPageOf : String → ℕ → String
+otherPageOf row w = seeOf row (otherSees w)
+
+-- the page that reads a word
+unfoldable pub rowOf : ℕ → String
+rowOf w = pageOf (tableRow w) w
+
+-- what the manual says of a word: a page reads it; it reads what 01's answer has no place for; a page names it; it is on none of these lists, which
+-- is shown not to be; or neither
+pub data Said : Type 0 where
+  reads : Decoded → Said
+  beyond : String → Said
+  names : String → Said
+  unlisted : Said
+  undefined : Said
+  unpredictable : Said
+
+-- the rows that the decoder refuses
+abbrev pub refusedRows : List String
+refusedRows =
+    -- A5.2.7
+    "SMLABB, SMLABT, SMLATB, SMLATT" ∷ "SMLAWB, SMLAWT" ∷ "SMULWB, SMULWT" ∷ "SMLALBB, SMLALBT, SMLALTB, SMLALTT" ∷
+    "SMULBB, SMULBT, SMULTB, SMULTT" ∷
+    -- A5.2.9
+    "STRHT" ∷ "LDRHT" ∷ "LDRSBT" ∷ "LDRSHT" ∷
+    -- A5.2.10
+    "SWP, SWPB" ∷ "STREXD" ∷ "LDREXD" ∷
+    -- A5.2.11
+    "DBG" ∷ "unallocated hint" ∷
+    -- A5.2.12
+    "MRS (Banked register)" ∷ "MSR (Banked register)" ∷ "ERET" ∷ "HVC" ∷ "SMC" ∷
+    -- A5.4.1
+    "SADD16" ∷ "SASX" ∷ "SSAX" ∷ "SSUB16" ∷ "SADD8" ∷ "SSUB8" ∷ "QADD16" ∷ "QASX" ∷ "QSAX" ∷ "QSUB16" ∷ "QADD8" ∷ "QSUB8" ∷ "SHADD16" ∷
+    "SHASX" ∷ "SHSAX" ∷ "SHSUB16" ∷ "SHADD8" ∷ "SHSUB8" ∷
+    -- A5.4.2
+    "UADD16" ∷ "UASX" ∷ "USAX" ∷ "USUB16" ∷ "UADD8" ∷ "USUB8" ∷ "UQADD16" ∷ "UQASX" ∷ "UQSAX" ∷ "UQSUB16" ∷ "UQADD8" ∷ "UQSUB8" ∷
+    "UHADD16" ∷ "UHASX" ∷ "UHSAX" ∷ "UHSUB16" ∷ "UHADD8" ∷ "UHSUB8" ∷
+    -- A5.4.3
+    "PKH" ∷ "SEL" ∷ "SSAT16" ∷ "USAT16" ∷
+    -- A5.4.4
+    "SMLAD" ∷ "SMUAD" ∷ "SMLSD" ∷ "SMUSD" ∷ "SMLALD" ∷ "SMLSLD" ∷ "SMMLA" ∷ "SMMUL" ∷ "SMMLS" ∷
+    -- A5.4
+    "USAD8" ∷ "USADA8" ∷
+    -- A5.5
+    "STM (User registers)" ∷ "LDM (User registers)" ∷ "LDM (exception return)" ∷
+    -- A5.7.1
+    "CPS" ∷ "SETEND" ∷ "Advanced SIMD data-processing" ∷ "Advanced SIMD load/store" ∷ "unallocated memory hint" ∷
+    "PLI (immediate, literal)" ∷ "CLREX" ∷ "DSB" ∷ "DMB" ∷ "ISB" ∷ "PLI (register)" ∷ "PLDW (register)" ∷ "PLD (register)" ∷
+    -- A5.7
+    "SRS" ∷ "RFE" ∷ "LDC, LDC2" ∷ "STC, STC2" ∷ "MCRR, MCRR2" ∷ "MRRC, MRRC2" ∷ "CDP, CDP2" ∷ "MCR, MCR2" ∷ "MRC, MRC2" ∷
+    []
+
+pub record Page : Type 0 where
+  pub title : String
+  pub said : Said
+
+infix 60 _:=_
+abbrev pub _:=_ : String → Said → Page
+t := s = record { title = t; said = s }
+
+abbrev pub saidAmong : String → List Page → Said
+saidAmong row [] =
+    pick (eqt row "UNDEFINED") undefined
+    (pick (eqt row "UNPREDICTABLE") unpredictable
+    (pick (isAmong row refusedRows) (names row) unlisted))
+saidAmong row (p ∷ ps) = pick (eqt row (p .title)) (p .said) (saidAmong row ps)
+
+module _ (w addr : ℕ) where
+  -- under a condition, "<c>"; and without one
+  abbrev pub reading : ℕ → Flow → List Operand → Said
+  reading name flow ops = reads (accepted (insnOf addr name (record { 0 = field w 28 4 }) flow (places ops)))
+
+  abbrev pub always : ℕ → Flow → List Operand → Said
+  always name flow ops = reads (accepted (insnOf addr name (record { 0 = 14 }) flow (places ops)))
+
+  -- data-processing: with a result, and with none
+  abbrev pub alu : ℕ → ℕ → List Operand → Said
+  alu plain s ops = reading (setflags w plain s) (writesPC w) ops
+
+  abbrev pub test : ℕ → List Operand → Said
+  test name ops = reading name Next ops
+
+  -- register-shifted: "if d == 15 .. then UNPREDICTABLE", and no ALUWritePC
+  abbrev pub byRegister : ℕ → ℕ → List Operand → Said
+  byRegister plain s ops = reading (setflags w plain s) Next ops
+
+  -- loads and stores of a word or byte, and the extra ones, which 01 shows in base ten. "P == '0' && W == '1'" are other pages, LDRT and
+  -- its like, which are read alike with index = FALSE
+  abbrev pub transfers : ℕ → Flow → AddrMode → Bool → Said
+  transfers name flow mode marked = reading name flow (R w 12 ∷ memory (field w 16 4) Absent (offset w (field w 0 12)) mode size (isPost mode) marked ∷ [])
+    where
+      size : ℕ
+      size = pick (isSet w 22) 1 4
+
+  -- "imm32 = ZeroExtend(imm12, 32)"
+  abbrev pub immediate : ℕ → Flow → Said
+  immediate name flow = transfers name flow (addressing w) (isMinusZero w (field w 0 12))
+
+  -- from R[15], of which 24 should be one and 21 zero
+  abbrev pub literal : ℕ → Flow → Said
+  literal name flow = transfers name flow Offset (isMinusZero w (field w 0 12))
+
+  -- with R[m], "(shift_t, shift_n) = DecodeImmShift(type, imm5)". 01's answer has a place for an index that is added and shifted left
+  abbrev pub withIndex : String → ℕ → Flow → Said
+  withIndex title name flow =
+      pick (both (isSet w 23) (eqb (field w 5 2) 0))
+      (reading name flow (R w 12 ∷ memory (field w 16 4) (indexed (field w 0 4) (field w 7 5)) (pos 0) (addressing w) size (isPost (addressing w)) false ∷ []))
+      (beyond title)
+    where
+      size : ℕ
+      size = pick (isSet w 22) 1 4
+
+  -- A8.8.92 and its like: bit 25 tells the two encodings apart
+  abbrev pub unprivileged : String → ℕ → Said
+  unprivileged title name = pick (isSet w 25) (withIndex title name Next) (immediate name Next)
+
+  -- "if t == 15 then .. LoadWritePC(data)" is of LDR alone
+  abbrev pub imm8 : ℕ
+  imm8 = field w 8 4 * 2 ^ 4 + field w 0 4
+
+  abbrev pub extra : ℕ → ℕ → List Operand → AddrMode → Said
+  extra name size to mode = reading name Next (to ++ (memory (field w 16 4) Absent (offset w imm8) mode size true (isMinusZero w imm8) ∷ []))
+
+  abbrev pub extraIndex : String → ℕ → ℕ → List Operand → Said
+  extraIndex title name size to =
+      pick (isSet w 23)
+      (reading name Next (to ++ (memory (field w 16 4) (indexed (field w 0 4) 0) (pos 0) (addressing w) size true false ∷ [])))
+      (beyond title)
+
+  -- "t = UInt(Rt)"; "t2 = t+1"
+  abbrev pub one : List Operand
+  one = R w 12 ∷ []
+
+  abbrev pub pair : List Operand
+  pair = R w 12 ∷ Register (record { 0 = field w 12 4 + 1 }) ∷ []
+
+  abbrev pub exclusive : ℕ → ℕ → List Operand → Said
+  exclusive name size ops = reading name Next (ops ++ (memory (field w 16 4) Absent (pos 0) Offset size false false ∷ []))
+
+  -- the status register's fields, R then mask
+  abbrev pub mask : Operand
+  mask = StatusMask (field w 22 1 * 2 ^ 4 + field w 16 4)
+
+  -- "imm32 = ZeroExtend(imm12:imm4, 32)"
+  abbrev pub imm16 : Operand
+  imm16 = Number (field w 8 12 * 2 ^ 4 + field w 0 4)
+
+  -- "lsbit = UInt(lsb)"; "<width>" is msbit - lsbit + 1
+  abbrev pub lsb : ℕ
+  lsb = field w 7 5
+
+  abbrev pub msb : ℕ
+  msb = field w 16 5
+
+  -- "registers = register_list", "wback = (W == '1')"; "if registers<15> .. LoadWritePC(..)"
+  abbrev pub registers : Operand
+  registers = Op.List (field w 0 16)
+
+  abbrev pub base : Operand
+  base = pick (isSet w 21) (WriteBack (record { 0 = field w 16 4 })) (R w 16)
+
+  abbrev pub loadsPC : Flow
+  loadsPC = pick (isSet w 15) (pick (eqb (field w 16 4) 13) Return IndirectBranch) Next
+
+  abbrev pub loadMultiple : ℕ → Said
+  loadMultiple name = reading name loadsPC (base ∷ registers ∷ [])
+
+  abbrev pub storeMultiple : ℕ → Said
+  storeMultiple name = reading name Next (base ∷ registers ∷ [])
+
+  -- PC is the instruction's address and 8 (A2.3.1); addresses have 32 bits
+  abbrev pub fromPC : ℕ → ℕ
+  fromPC imm32 = (addr + 8 + imm32) % 2 ^ 32
+
+  -- "imm32 = SignExtend(imm24:'00', 32)", and "SignExtend(imm24:H:'0', 32)"
+  abbrev pub imm24 : ℕ
+  imm24 = SignExtend (field w 0 24 * 4) 26
+
+  abbrev pub imm24H : ℕ
+  imm24H = SignExtend (field w 0 24 * 4 + field w 24 1 * 2) 26
+
+  abbrev pub preload : ℕ → Said
+  preload name = reading name Next (memory (field w 16 4) Absent (offset w (field w 0 12)) Offset 1 false (isMinusZero w (field w 0 12)) ∷ [])
+
+  abbrev pub pages : List Page
+  pages =
+      -- A5.2.1
+      ("AND (register)" := alu N.AND N.ANDS (R w 12 ∷ R w 16 ∷ shifted w ∷ [])) ∷
+      ("EOR (register)" := alu N.EOR N.EORS (R w 12 ∷ R w 16 ∷ shifted w ∷ [])) ∷
+      ("SUB (register)" := alu N.SUB N.SUBS (R w 12 ∷ R w 16 ∷ shifted w ∷ [])) ∷
+      ("RSB (register)" := alu N.RSB N.RSBS (R w 12 ∷ R w 16 ∷ shifted w ∷ [])) ∷
+      ("ADD (register)" := alu N.ADD N.ADDS (R w 12 ∷ R w 16 ∷ shifted w ∷ [])) ∷
+      ("ADC (register)" := alu N.ADC N.ADCS (R w 12 ∷ R w 16 ∷ shifted w ∷ [])) ∷
+      ("SBC (register)" := alu N.SBC N.SBCS (R w 12 ∷ R w 16 ∷ shifted w ∷ [])) ∷
+      ("RSC (register)" := alu N.RSC N.RSCS (R w 12 ∷ R w 16 ∷ shifted w ∷ [])) ∷
+      ("TST (register)" := test N.TST (R w 16 ∷ shifted w ∷ [])) ∷
+      ("TEQ (register)" := test N.TEQ (R w 16 ∷ shifted w ∷ [])) ∷
+      ("CMP (register)" := test N.CMP (R w 16 ∷ shifted w ∷ [])) ∷
+      ("CMN (register)" := test N.CMN (R w 16 ∷ shifted w ∷ [])) ∷
+      ("ORR (register)" := alu N.ORR N.ORRS (R w 12 ∷ R w 16 ∷ shifted w ∷ [])) ∷
+      -- 01: a branch to what register 14 holds is a return
+      ("MOV (register, ARM)" := reading (setflags w N.MOV N.MOVS) (pick (eqb (field w 12 4) 15) (branchesTo (field w 0 4)) Next) (R w 12 ∷ R w 0 ∷ [])) ∷
+      ("LSL (immediate)" := alu N.LSL N.LSLS (R w 12 ∷ R w 0 ∷ shiftCount w ∷ [])) ∷
+      ("LSR (immediate)" := alu N.LSR N.LSRS (R w 12 ∷ R w 0 ∷ shiftCount w ∷ [])) ∷
+      ("ASR (immediate)" := alu N.ASR N.ASRS (R w 12 ∷ R w 0 ∷ shiftCount w ∷ [])) ∷
+      ("RRX" := alu N.RRX N.RRXS (R w 12 ∷ R w 0 ∷ [])) ∷
+      ("ROR (immediate)" := alu N.ROR N.RORS (R w 12 ∷ R w 0 ∷ shiftCount w ∷ [])) ∷
+      ("BIC (register)" := alu N.BIC N.BICS (R w 12 ∷ R w 16 ∷ shifted w ∷ [])) ∷
+      ("MVN (register)" := alu N.MVN N.MVNS (R w 12 ∷ shifted w ∷ [])) ∷
+      -- A5.2.2
+      ("AND (register-shifted register)" := byRegister N.AND N.ANDS (R w 12 ∷ R w 16 ∷ registerShifted w)) ∷
+      ("EOR (register-shifted register)" := byRegister N.EOR N.EORS (R w 12 ∷ R w 16 ∷ registerShifted w)) ∷
+      ("SUB (register-shifted register)" := byRegister N.SUB N.SUBS (R w 12 ∷ R w 16 ∷ registerShifted w)) ∷
+      ("RSB (register-shifted register)" := byRegister N.RSB N.RSBS (R w 12 ∷ R w 16 ∷ registerShifted w)) ∷
+      ("ADD (register-shifted register)" := byRegister N.ADD N.ADDS (R w 12 ∷ R w 16 ∷ registerShifted w)) ∷
+      ("ADC (register-shifted register)" := byRegister N.ADC N.ADCS (R w 12 ∷ R w 16 ∷ registerShifted w)) ∷
+      ("SBC (register-shifted register)" := byRegister N.SBC N.SBCS (R w 12 ∷ R w 16 ∷ registerShifted w)) ∷
+      ("RSC (register-shifted register)" := byRegister N.RSC N.RSCS (R w 12 ∷ R w 16 ∷ registerShifted w)) ∷
+      ("TST (register-shifted register)" := test N.TST (R w 16 ∷ registerShifted w)) ∷
+      ("TEQ (register-shifted register)" := test N.TEQ (R w 16 ∷ registerShifted w)) ∷
+      ("CMP (register-shifted register)" := test N.CMP (R w 16 ∷ registerShifted w)) ∷
+      ("CMN (register-shifted register)" := test N.CMN (R w 16 ∷ registerShifted w)) ∷
+      ("ORR (register-shifted register)" := byRegister N.ORR N.ORRS (R w 12 ∷ R w 16 ∷ registerShifted w)) ∷
+      ("LSL (register)" := byRegister N.LSL N.LSLS (R w 12 ∷ R w 0 ∷ R w 8 ∷ [])) ∷
+      ("LSR (register)" := byRegister N.LSR N.LSRS (R w 12 ∷ R w 0 ∷ R w 8 ∷ [])) ∷
+      ("ASR (register)" := byRegister N.ASR N.ASRS (R w 12 ∷ R w 0 ∷ R w 8 ∷ [])) ∷
+      ("ROR (register)" := byRegister N.ROR N.RORS (R w 12 ∷ R w 0 ∷ R w 8 ∷ [])) ∷
+      ("BIC (register-shifted register)" := byRegister N.BIC N.BICS (R w 12 ∷ R w 16 ∷ registerShifted w)) ∷
+      ("MVN (register-shifted register)" := byRegister N.MVN N.MVNS (R w 12 ∷ registerShifted w)) ∷
+      -- A5.2.3
+      ("AND (immediate)" := alu N.AND N.ANDS (R w 12 ∷ R w 16 ∷ constant w false)) ∷
+      ("EOR (immediate)" := alu N.EOR N.EORS (R w 12 ∷ R w 16 ∷ constant w false)) ∷
+      ("SUB (immediate, ARM)" := alu N.SUB N.SUBS (R w 12 ∷ R w 16 ∷ constant w false)) ∷
+      ("RSB (immediate)" := alu N.RSB N.RSBS (R w 12 ∷ R w 16 ∷ constant w false)) ∷
+      ("ADD (immediate, ARM)" := alu N.ADD N.ADDS (R w 12 ∷ R w 16 ∷ constant w false)) ∷
+      ("ADC (immediate)" := alu N.ADC N.ADCS (R w 12 ∷ R w 16 ∷ constant w false)) ∷
+      ("SBC (immediate)" := alu N.SBC N.SBCS (R w 12 ∷ R w 16 ∷ constant w false)) ∷
+      ("RSC (immediate)" := alu N.RSC N.RSCS (R w 12 ∷ R w 16 ∷ constant w false)) ∷
+      ("TST (immediate)" := test N.TST (R w 16 ∷ constant w false)) ∷
+      ("TEQ (immediate)" := test N.TEQ (R w 16 ∷ constant w false)) ∷
+      ("CMP (immediate)" := test N.CMP (R w 16 ∷ constant w false)) ∷
+      ("CMN (immediate)" := test N.CMN (R w 16 ∷ constant w false)) ∷
+      ("ORR (immediate)" := alu N.ORR N.ORRS (R w 12 ∷ R w 16 ∷ constant w false)) ∷
+      -- 01: "unsigned .. for mov to 15"
+      ("MOV (immediate)" := alu N.MOV N.MOVS (R w 12 ∷ constant w (eqb (field w 12 4) 15))) ∷
+      ("BIC (immediate)" := alu N.BIC N.BICS (R w 12 ∷ R w 16 ∷ constant w false)) ∷
+      ("MVN (immediate)" := alu N.MVN N.MVNS (R w 12 ∷ constant w false)) ∷
+      -- A5.2: "imm32 = ZeroExtend(imm4:imm12, 32)"
+      ("MOV (immediate), 16-bit" := reading N.MOVW Next (R w 12 ∷ Number (field w 16 4 * 2 ^ 12 + field w 0 12) ∷ [])) ∷
+      ("MOVT" := reading N.MOVT Next (R w 12 ∷ Number (field w 16 4 * 2 ^ 12 + field w 0 12) ∷ [])) ∷
+      -- A5.2.5: d = 19:16, n = 3:0, m = 11:8, a = 15:12; dHi = 19:16, dLo = 15:12
+      ("MUL" := byRegister N.MUL N.MULS (R w 16 ∷ R w 0 ∷ R w 8 ∷ [])) ∷
+      ("MLA" := byRegister N.MLA N.MLAS (R w 16 ∷ R w 0 ∷ R w 8 ∷ R w 12 ∷ [])) ∷
+      ("UMAAL" := reading N.UMAAL Next (R w 12 ∷ R w 16 ∷ R w 0 ∷ R w 8 ∷ [])) ∷
+      ("MLS" := reading N.MLS Next (R w 16 ∷ R w 0 ∷ R w 8 ∷ R w 12 ∷ [])) ∷
+      ("UMULL" := byRegister N.UMULL N.UMULLS (R w 12 ∷ R w 16 ∷ R w 0 ∷ R w 8 ∷ [])) ∷
+      ("UMLAL" := byRegister N.UMLAL N.UMLALS (R w 12 ∷ R w 16 ∷ R w 0 ∷ R w 8 ∷ [])) ∷
+      ("SMULL" := byRegister N.SMULL N.SMULLS (R w 12 ∷ R w 16 ∷ R w 0 ∷ R w 8 ∷ [])) ∷
+      ("SMLAL" := byRegister N.SMLAL N.SMLALS (R w 12 ∷ R w 16 ∷ R w 0 ∷ R w 8 ∷ [])) ∷
+      -- A5.2.6: "QADD<c> <Rd>, <Rm>, <Rn>"
+      ("QADD" := reading N.QADD Next (R w 12 ∷ R w 0 ∷ R w 16 ∷ [])) ∷
+      ("QSUB" := reading N.QSUB Next (R w 12 ∷ R w 0 ∷ R w 16 ∷ [])) ∷
+      ("QDADD" := reading N.QDADD Next (R w 12 ∷ R w 0 ∷ R w 16 ∷ [])) ∷
+      ("QDSUB" := reading N.QDSUB Next (R w 12 ∷ R w 0 ∷ R w 16 ∷ [])) ∷
+      -- A5.2.8
+      ("STRH (register)" := extraIndex "STRH (register)" N.STRH 2 one) ∷
+      ("LDRH (register)" := extraIndex "LDRH (register)" N.LDRH 2 one) ∷
+      ("STRH (immediate, ARM)" := extra N.STRH 2 one (addressing w)) ∷
+      ("LDRH (immediate, ARM)" := extra N.LDRH 2 one (addressing w)) ∷
+      ("LDRH (literal)" := extra N.LDRH 2 one Offset) ∷
+      ("LDRD (register)" := extraIndex "LDRD (register)" N.LDRD 8 pair) ∷
+      ("LDRSB (register)" := extraIndex "LDRSB (register)" N.LDRSB 1 one) ∷
+      ("LDRD (immediate)" := extra N.LDRD 8 pair (addressing w)) ∷
+      ("LDRD (literal)" := extra N.LDRD 8 pair Offset) ∷
+      ("LDRSB (immediate)" := extra N.LDRSB 1 one (addressing w)) ∷
+      ("LDRSB (literal)" := extra N.LDRSB 1 one Offset) ∷
+      ("STRD (register)" := extraIndex "STRD (register)" N.STRD 8 pair) ∷
+      ("LDRSH (register)" := extraIndex "LDRSH (register)" N.LDRSH 2 one) ∷
+      ("STRD (immediate)" := extra N.STRD 8 pair (addressing w)) ∷
+      ("LDRSH (immediate)" := extra N.LDRSH 2 one (addressing w)) ∷
+      ("LDRSH (literal)" := extra N.LDRSH 2 one Offset) ∷
+      -- A5.2.10: "STREX<c> <Rd>, <Rt>, [<Rn>]", t = 3:0; "LDREX<c> <Rt>, [<Rn>]", t = 15:12
+      ("STREX" := exclusive N.STREX 4 (R w 12 ∷ R w 0 ∷ [])) ∷
+      ("LDREX" := exclusive N.LDREX 4 (R w 12 ∷ [])) ∷
+      ("STREXB" := exclusive N.STREXB 1 (R w 12 ∷ R w 0 ∷ [])) ∷
+      ("LDREXB" := exclusive N.LDREXB 1 (R w 12 ∷ [])) ∷
+      ("STREXH" := exclusive N.STREXH 2 (R w 12 ∷ R w 0 ∷ [])) ∷
+      ("LDREXH" := exclusive N.LDREXH 2 (R w 12 ∷ [])) ∷
+      -- A5.2.11; 01: unsigned for msr
+      ("NOP" := reading N.NOP Next []) ∷
+      ("YIELD" := reading N.YIELD Next []) ∷
+      ("WFE" := reading N.WFE Next []) ∷
+      ("WFI" := reading N.WFI Next []) ∷
+      ("SEV" := reading N.SEV Next []) ∷
+      ("MSR (immediate)" := reading N.MSR Next (mask ∷ constant w true)) ∷
+      -- A5.2.12
+      ("MRS" := reading N.MRS Next (R w 12 ∷ pick (isSet w 22) (StatusSource Spsr) (StatusSource Apsr) ∷ [])) ∷
+      ("MSR (register)" := reading N.MSR Next (mask ∷ R w 0 ∷ [])) ∷
+      ("BX" := reading N.BX (branchesTo (field w 0 4)) (R w 0 ∷ [])) ∷
+      ("CLZ" := reading N.CLZ Next (R w 12 ∷ R w 0 ∷ [])) ∷
+      ("BXJ" := reading N.BXJ IndirectBranch (R w 0 ∷ [])) ∷
+      ("BLX (register)" := reading N.BLX IndirectCall (R w 0 ∷ [])) ∷
+      -- "BKPT instruction must be unconditional"
+      ("BKPT" := always N.BKPT Trap (imm16 ∷ [])) ∷
+      -- A5.3
+      ("STRT" := unprivileged "STRT" N.STRT) ∷
+      ("LDRT" := unprivileged "LDRT" N.LDRT) ∷
+      ("STRBT" := unprivileged "STRBT" N.STRBT) ∷
+      ("LDRBT" := unprivileged "LDRBT" N.LDRBT) ∷
+      ("STR (immediate, ARM)" := immediate N.STR Next) ∷
+      ("STR (register)" := withIndex "STR (register)" N.STR Next) ∷
+      ("LDR (immediate, ARM)" := immediate N.LDR (writesPC w)) ∷
+      ("LDR (literal)" := literal N.LDR (writesPC w)) ∷
+      ("LDR (register, ARM)" := withIndex "LDR (register, ARM)" N.LDR (writesPC w)) ∷
+      ("STRB (immediate, ARM)" := immediate N.STRB Next) ∷
+      ("STRB (register)" := withIndex "STRB (register)" N.STRB Next) ∷
+      ("LDRB (immediate, ARM)" := immediate N.LDRB Next) ∷
+      ("LDRB (literal)" := literal N.LDRB Next) ∷
+      ("LDRB (register)" := withIndex "LDRB (register)" N.LDRB Next) ∷
+      -- A5.4; a UDF is encoded with the condition always
+      ("SSAT" := reading N.SSAT Next (R w 12 ∷ Count (pos (field w 16 5 + 1)) ∷ R w 0 ∷ saturateShift w ∷ [])) ∷
+      ("USAT" := reading N.USAT Next (R w 12 ∷ Count (pos (field w 16 5)) ∷ R w 0 ∷ saturateShift w ∷ [])) ∷
+      ("SXTAB16" := reading N.SXTAB16 Next (R w 12 ∷ R w 16 ∷ R w 0 ∷ rotation w ∷ [])) ∷
+      ("SXTB16" := reading N.SXTB16 Next (R w 12 ∷ R w 0 ∷ rotation w ∷ [])) ∷
+      ("SXTAB" := reading N.SXTAB Next (R w 12 ∷ R w 16 ∷ R w 0 ∷ rotation w ∷ [])) ∷
+      ("SXTB" := reading N.SXTB Next (R w 12 ∷ R w 0 ∷ rotation w ∷ [])) ∷
+      ("REV" := reading N.REV Next (R w 12 ∷ R w 0 ∷ [])) ∷
+      ("SXTAH" := reading N.SXTAH Next (R w 12 ∷ R w 16 ∷ R w 0 ∷ rotation w ∷ [])) ∷
+      ("SXTH" := reading N.SXTH Next (R w 12 ∷ R w 0 ∷ rotation w ∷ [])) ∷
+      ("REV16" := reading N.REV16 Next (R w 12 ∷ R w 0 ∷ [])) ∷
+      ("UXTAB16" := reading N.UXTAB16 Next (R w 12 ∷ R w 16 ∷ R w 0 ∷ rotation w ∷ [])) ∷
+      ("UXTB16" := reading N.UXTB16 Next (R w 12 ∷ R w 0 ∷ rotation w ∷ [])) ∷
+      ("UXTAB" := reading N.UXTAB Next (R w 12 ∷ R w 16 ∷ R w 0 ∷ rotation w ∷ [])) ∷
+      ("UXTB" := reading N.UXTB Next (R w 12 ∷ R w 0 ∷ rotation w ∷ [])) ∷
+      ("RBIT" := reading N.RBIT Next (R w 12 ∷ R w 0 ∷ [])) ∷
+      ("UXTAH" := reading N.UXTAH Next (R w 12 ∷ R w 16 ∷ R w 0 ∷ rotation w ∷ [])) ∷
+      ("UXTH" := reading N.UXTH Next (R w 12 ∷ R w 0 ∷ rotation w ∷ [])) ∷
+      ("REVSH" := reading N.REVSH Next (R w 12 ∷ R w 0 ∷ [])) ∷
+      ("SDIV" := reading N.SDIV Next (R w 16 ∷ R w 0 ∷ R w 8 ∷ [])) ∷
+      ("UDIV" := reading N.UDIV Next (R w 16 ∷ R w 0 ∷ R w 8 ∷ [])) ∷
+      ("SBFX" := reading N.SBFX Next (R w 12 ∷ R w 0 ∷ Number lsb ∷ Number (msb + 1) ∷ [])) ∷
+      ("BFC" := reading N.BFC Next (R w 12 ∷ Count (pos lsb) ∷ Count (pos (msb - lsb + 1)) ∷ [])) ∷
+      ("BFI" := reading N.BFI Next (R w 12 ∷ R w 0 ∷ Count (pos lsb) ∷ Count (pos (msb - lsb + 1)) ∷ [])) ∷
+      ("UBFX" := reading N.UBFX Next (R w 12 ∷ R w 0 ∷ Number lsb ∷ Number (msb + 1) ∷ [])) ∷
+      ("UDF" := always N.UDF Trap (imm16 ∷ [])) ∷
+      -- A5.5
+      ("STMDA" := storeMultiple N.STMDA) ∷
+      ("LDMDA" := loadMultiple N.LDMDA) ∷
+      ("STM" := storeMultiple N.STM) ∷
+      ("LDM" := loadMultiple N.LDM) ∷
+      ("POP" := reading N.POP loadsPC (registers ∷ [])) ∷
+      ("STMDB" := storeMultiple N.STMDB) ∷
+      ("PUSH" := reading N.PUSH Next (registers ∷ [])) ∷
+      ("LDMDB" := loadMultiple N.LDMDB) ∷
+      ("STMIB" := storeMultiple N.STMIB) ∷
+      ("LDMIB" := loadMultiple N.LDMIB) ∷
+      -- "BranchWritePC(PC + imm32)"; 01 tells a branch under a condition from one without
+      ("B" := reading N.B (pick (eqb (field w 28 4) 14) (Branch (fromPC imm24)) (CondBranch (fromPC imm24))) (Address (fromPC imm24) ∷ [])) ∷
+      ("BL" := reading N.BL (Call (fromPC imm24)) (Address (fromPC imm24) ∷ [])) ∷
+      -- other names of words that are read above
+      ("ADR" := names "ADR") ∷
+      ("SUBS PC, LR and related instructions" := names "SUBS PC, LR and related instructions") ∷
+      ("PUSH, one register" := names "PUSH, one register") ∷
+      ("POP, one register" := names "POP, one register") ∷
+      -- A5.7
+      ("PLDW (immediate)" := preload N.PLDW) ∷
+      ("PLD (immediate)" := preload N.PLD) ∷
+      ("PLD (literal)" := preload N.PLD) ∷
+      ("BLX (immediate)" := reading N.BLX (Call (fromPC imm24H)) (Address (fromPC imm24H) ∷ [])) ∷
+      []
+
+  -- what the manual says of w at an address, once the page is known
+  unfoldable pub saidOf : String → Said
+  saidOf row = saidAmong row pages

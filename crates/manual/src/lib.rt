@@ -1,0 +1,1 @@
+//! DDI 0406C, chapter A5.
