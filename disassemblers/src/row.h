@@ -1,0 +1,5 @@
+// The twin of the definition, proved: the number of a word's row, its place in crates/rows/specs/Titles.antt.
+#pragma once
+#include <cstdint>
+
+extern "C" uint16_t row(uint32_t word);
