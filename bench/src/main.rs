@@ -37,12 +37,17 @@ fn main() -> ExitCode {
     }
 }
 
-/// The arguments are a file of code, and the commands that list its first words, as `process` reads them.
+/// The arguments are a file of code, the flash driver's, and the commands that list the first words of the one, as `process` reads them.
 fn run(arguments: &[String]) -> Result<(), String> {
-    let [code, commands @ ..] = arguments else {
-        return Err("a file of code is to be named".to_string());
+    let [code, flash, commands @ ..] = arguments else {
+        return Err("two files of code are to be named".to_string());
     };
-    let inputs = [words::sweep(), words::random(), words::code(code)?];
+    let inputs = [
+        words::sweep(),
+        words::random(),
+        words::code("real code", code)?,
+        words::code("the flash driver", flash)?,
+    ];
     decoding(&inputs);
     groups(&inputs[2]);
     texts(&inputs);

@@ -68,12 +68,12 @@ pub fn random() -> Words {
 }
 
 /// The words of a file of code, without those that are out of range.
-pub fn code(file: &str) -> Result<Words, String> {
+pub fn code(what: &'static str, file: &str) -> Result<Words, String> {
     let bytes = fs::read(file).map_err(|why| format!("{file}: {why}"))?;
     let (words, _) = bytes.as_chunks::<4>();
     let words = words.iter().map(|&word| u32::from_le_bytes(word));
     Ok(Words {
-        what: "real code",
+        what,
         words: words.filter(|&word| in_range(word)).collect(),
     })
 }
