@@ -1,17 +1,26 @@
 -- The multiplies: an answer leads back to its home word. Assumes nothing.
-use mathlib.Core.Path.{_≡_}
-use mathlib.Core.Bool.{false}
+use mathlib.Core.Path.{_≡_, refl}
+use mathlib.Core.Bool.{Bool, true, false}
 use mathlib.Core.List.{[], _∷_}
-use Prim.Native.Nat.{ℕ, _+_, _*_, _^_, _<_}
+use Prim.Native.Nat.{ℕ, _+_, _-_, _*_, _^_, _<_}
 use borrow.Author.Tests.{eqb-true}
-use lib.Dec.{eqb}
-use Rattle.word.specs.Choice.{by-test}
+use lib.Dec.{eqb, leb}
+use lib.ListN.{getD}
+use Rattle.word.specs.Choice.{pick, inside, by-test}
 use Rattle.word.specs.Field.{field, clear, clear-small, splits}
 use Rattle.word.specs.Layout.{join, whole}
-use Rattle.multiply.specs.Multiply.{multiplyOf}
-use Rattle.home.specs.WordMultiply.{layout}
+use Rattle.insn.specs.Name.{MUL, MULS, MLA, MLAS, UMAAL, MLS, UMULL, UMULLS, UMLAL, UMLALS, SMULL, SMULLS, SMLAL, SMLALS}
+use Rattle.insn.specs.declared.Decoded.{Decoded}
+use Rattle.insn.specs.declared.Flow.the-variants.{Next}
+use Rattle.arm.specs.Row.{byS, regOf, answer}
+use Rattle.multiply.specs.Multiply.{longOf, addingOf, clearS, multiplyOf}
+use Rattle.home.specs.WordMultiply.{layout, operations, isLong}
 use Rattle.home.specs.WordExtra.{extraWord}
 use Rattle.home.proofs.Leads.{apart, Leads, bit-cases, refusal}
+
+-- a name with its 23:20, and whether it is a long one
+abbrev Named : ℕ → ℕ → Bool → Type 0
+Named name op long = (inside 49 74 name ≡ true) × (leb name 62 ≡ true) × (getD operations (name - MULS) 0 ≡ op) × (isLong op ≡ long)
 
 module _ (w addr : ℕ) (bound : w < 2 ^ 32)
     (group : field w 25 3 ≡ 0) (seven : field w 7 1 ≡ 1) (four : field w 4 1 ≡ 1) (kind : field w 5 2 ≡ 0) (p : field w 24 1 ≡ 0) where
@@ -20,75 +29,63 @@ module _ (w addr : ℕ) (bound : w < 2 ^ 32)
   twenty is-op is-s = simp (is-op, is-s) at (splits w 20 3 1)
 
   -- a word is its fields, joined; so is a word with 15:12 cleared
-  whole-word : {op s : ℕ} → field w 21 3 ≡ op → field w 20 1 ≡ s
-      → join layout (field w 0 4 ∷ 1 ∷ 0 ∷ 1 ∷ field w 8 4 ∷ field w 12 4 ∷ field w 16 4 ∷ (op * 2 + s) ∷ 0 ∷ 0 ∷ field w 28 4 ∷ []) ≡ w
-  whole-word is-op is-s = simp (group, seven, four, kind, p, twenty is-op is-s) at (whole layout w bound)
+  whole-word : {op : ℕ} → field w 20 4 ≡ op
+      → join layout (field w 0 4 ∷ 1 ∷ 0 ∷ 1 ∷ field w 8 4 ∷ field w 12 4 ∷ field w 16 4 ∷ op ∷ 0 ∷ 0 ∷ field w 28 4 ∷ []) ≡ w
+  whole-word is-op = simp (group, seven, four, kind, p, is-op) at (whole layout w bound)
 
-  whole-home : {op s : ℕ} → field w 21 3 ≡ op → field w 20 1 ≡ s
-      → join layout (field w 0 4 ∷ 1 ∷ 0 ∷ 1 ∷ field w 8 4 ∷ 0 ∷ field w 16 4 ∷ (op * 2 + s) ∷ 0 ∷ 0 ∷ field w 28 4 ∷ []) ≡ clear w 12 4
-  whole-home is-op is-s =
-      simp (apart, group, seven, four, kind, p, twenty is-op is-s) at (whole layout (clear w 12 4) (clear-small w 12 4 bound))
+  whole-home : {op : ℕ} → field w 20 4 ≡ op
+      → join layout (field w 0 4 ∷ 1 ∷ 0 ∷ 1 ∷ field w 8 4 ∷ 0 ∷ field w 16 4 ∷ op ∷ 0 ∷ 0 ∷ field w 28 4 ∷ []) ≡ clear w 12 4
+  whole-home is-op = simp (apart, group, seven, four, kind, p, is-op) at (whole layout (clear w 12 4) (clear-small w 12 4 bound))
+
+  abbrev Back : ℕ → Decoded → Type 0
+  Back home d = Leads extraWord 49 74 home d
+
+  -- a row with S leads back where both of its names do, and one without where its own does
+  by-s : (of : ℕ → Decoded) {home op : ℕ} (plain set : ℕ) → field w 21 3 ≡ op
+      → (field w 20 4 ≡ op * 2 + 0 → Back home (of plain)) → (field w 20 4 ≡ op * 2 + 1 → Back home (of set)) → Back home (of (byS w plain set))
+  by-s of plain set is-op off on = bit-cases w 20 (λ s. simp s (off (twenty is-op s))) (λ s. simp s (on (twenty is-op s)))
+
+  clear-s : (d : Decoded) {op : ℕ} → field w 21 3 ≡ op → (field w 20 4 ≡ op * 2 + 0 → Back w d) → Back w (clearS w d)
+  clear-s d is-op off = bit-cases w 20 (λ s. simp s (off (twenty is-op s))) (λ s ok. refusal (simp s at ok))
 
   -- mul ignores 15:12
   pub mul-leads : field w 21 3 ≡ 0 → Leads extraWord 49 74 (clear w 12 4) (multiplyOf w addr)
-  mul-leads op =
-      bit-cases w 20
-      (λ s ok. (simp (op, s) (whole-home op s), simp (op, s), simp (op, s)))
-      (λ s ok. (simp (op, s) (whole-home op s), simp (op, s), simp (op, s)))
+  mul-leads op = simp op (by-s mulOf MUL MULS op (leads MUL (refl, refl, refl, refl)) (leads MULS (refl, refl, refl, refl)))
+    where
+      mulOf : ℕ → Decoded
+      mulOf name = answer w addr name Next (regOf w 16 ∷ regOf w 0 ∷ regOf w 8 ∷ [])
+
+      leads : (name : ℕ) {op : ℕ} → Named name op false → field w 20 4 ≡ op → Back (clear w 12 4) (mulOf name)
+      leads name (named, low, of-name, short) is-op ok = (simp (low, of-name, short) (whole-home is-op), named, refl)
 
   -- the others read every field
   pub rest-leads : eqb (field w 21 3) 0 ≡ false → Leads extraWord 49 74 w (multiplyOf w addr)
   rest-leads n0 =
-      by-test (eqb (field w 21 3) 1) (λ e. mla (eqb-true _ 1 e)) λ n1.
-      by-test (eqb (field w 21 3) 2) (λ e. umaal (eqb-true _ 2 e)) λ n2.
-      by-test (eqb (field w 21 3) 3) (λ e. mls (eqb-true _ 3 e)) λ n3.
-      by-test (eqb (field w 21 3) 4) (λ e. umull (eqb-true _ 4 e)) λ n4.
-      by-test (eqb (field w 21 3) 5) (λ e. umlal (eqb-true _ 5 e)) λ n5.
-      by-test (eqb (field w 21 3) 6) (λ e. smull (eqb-true _ 6 e)) λ n6.
-      by-test (eqb (field w 21 3) 7) (λ e. smlal (eqb-true _ 7 e)) λ n7.
+      by-test (eqb (field w 21 3) 1) (with-s false 1 MLA MLAS (λ op. simp op) (refl, refl, refl, refl) (refl, refl, refl, refl)) λ n1.
+      by-test (eqb (field w 21 3) 2) (without-s true 2 UMAAL (λ op. simp op) (refl, refl, refl, refl)) λ n2.
+      by-test (eqb (field w 21 3) 3) (without-s false 3 MLS (λ op. simp op) (refl, refl, refl, refl)) λ n3.
+      by-test (eqb (field w 21 3) 4) (with-s true 4 UMULL UMULLS (λ op. simp op) (refl, refl, refl, refl) (refl, refl, refl, refl)) λ n4.
+      by-test (eqb (field w 21 3) 5) (with-s true 5 UMLAL UMLALS (λ op. simp op) (refl, refl, refl, refl) (refl, refl, refl, refl)) λ n5.
+      by-test (eqb (field w 21 3) 6) (with-s true 6 SMULL SMULLS (λ op. simp op) (refl, refl, refl, refl) (refl, refl, refl, refl)) λ n6.
+      by-test (eqb (field w 21 3) 7) (with-s true 7 SMLAL SMLALS (λ op. simp op) (refl, refl, refl, refl) (refl, refl, refl, refl)) λ n7.
       λ ok. refusal (simp (n0, n1, n2, n3, n4, n5, n6, n7) at ok)
     where
-      Rest : Type 0
-      Rest = Leads extraWord 49 74 w (multiplyOf w addr)
+      formOf : Bool → ℕ → Decoded
+      formOf long name = pick long (longOf w addr name) (addingOf w addr name)
 
-      mla : field w 21 3 ≡ 1 → Rest
-      mla op =
-          bit-cases w 20
-          (λ s ok. (simp (op, s) (whole-word op s), simp (op, s), simp (op, s)))
-          (λ s ok. (simp (op, s) (whole-word op s), simp (op, s), simp (op, s)))
+      leads : (long : Bool) (name : ℕ) {op : ℕ} → Named name op long → field w 20 4 ≡ op → Back w (formOf long name)
+      leads true name (named, low, of-name, long) is-op ok = (simp (low, of-name, long) (whole-word is-op), named, refl)
+      leads false name (named, low, of-name, short) is-op ok = (simp (low, of-name, short) (whole-word is-op), named, refl)
 
-      umaal : field w 21 3 ≡ 2 → Rest
-      umaal op =
-          bit-cases w 20
-          (λ s ok. (simp (op, s) (whole-word op s), simp (op, s), simp (op, s)))
-          (λ s ok. refusal (simp (op, s) at ok))
+      -- a row of 23:21, by its names and the answer that it gives
+      with-s : (long : Bool) (op plain set : ℕ) → (field w 21 3 ≡ op → multiplyOf w addr ≡ formOf long (byS w plain set))
+          → Named plain (op * 2 + 0) long → Named set (op * 2 + 1) long → eqb (field w 21 3) op ≡ true → Back w (multiplyOf w addr)
+      with-s long op plain set gives off on e =
+          let is-op : field w 21 3 ≡ op = eqb-true _ op e in
+          rw (gives is-op) (by-s (formOf long) plain set is-op (leads long plain off) (leads long set on))
 
-      mls : field w 21 3 ≡ 3 → Rest
-      mls op =
-          bit-cases w 20
-          (λ s ok. (simp (op, s) (whole-word op s), simp (op, s), simp (op, s)))
-          (λ s ok. refusal (simp (op, s) at ok))
-
-      umull : field w 21 3 ≡ 4 → Rest
-      umull op =
-          bit-cases w 20
-          (λ s ok. (simp (op, s) (whole-word op s), simp (op, s), simp (op, s)))
-          (λ s ok. (simp (op, s) (whole-word op s), simp (op, s), simp (op, s)))
-
-      umlal : field w 21 3 ≡ 5 → Rest
-      umlal op =
-          bit-cases w 20
-          (λ s ok. (simp (op, s) (whole-word op s), simp (op, s), simp (op, s)))
-          (λ s ok. (simp (op, s) (whole-word op s), simp (op, s), simp (op, s)))
-
-      smull : field w 21 3 ≡ 6 → Rest
-      smull op =
-          bit-cases w 20
-          (λ s ok. (simp (op, s) (whole-word op s), simp (op, s), simp (op, s)))
-          (λ s ok. (simp (op, s) (whole-word op s), simp (op, s), simp (op, s)))
-
-      smlal : field w 21 3 ≡ 7 → Rest
-      smlal op =
-          bit-cases w 20
-          (λ s ok. (simp (op, s) (whole-word op s), simp (op, s), simp (op, s)))
-          (λ s ok. (simp (op, s) (whole-word op s), simp (op, s), simp (op, s)))
+      without-s : (long : Bool) (op name : ℕ) → (field w 21 3 ≡ op → multiplyOf w addr ≡ clearS w (formOf long name))
+          → Named name (op * 2 + 0) long → eqb (field w 21 3) op ≡ true → Back w (multiplyOf w addr)
+      without-s long op name gives off e =
+          let is-op : field w 21 3 ≡ op = eqb-true _ op e in
+          rw (gives is-op) (clear-s (formOf long name) is-op (leads long name off))
