@@ -1,21 +1,26 @@
 -- The control words: clearing what a row ignores changes no answer, and an answer leads back to its home word. Assumes nothing.
-use mathlib.Core.Path.{_≡_, refl}
+use mathlib.Core.Path.{_≡_, refl, _∙_}
 use mathlib.Core.Bool.{Bool, true, false}
 use mathlib.Core.List.{[], _∷_}
 use Prim.Native.Nat.{ℕ, _^_, _<_}
 use borrow.Author.Tests.{eqb-true}
 use lib.Dec.{eqb}
-use Rattle.word.specs.Choice.{pick, by-test}
+use Rattle.word.specs.Choice.{pick, inside, by-test}
 use Rattle.word.specs.Field.{field, clear, clear-small}
 use Rattle.word.specs.Layout.{join, whole, upper, lower}
-use Rattle.misc.specs.Misc.{miscOf}
+use Rattle.insn.specs.Name.{BX, BXJ, BLX, QADD, QSUB, QDADD, QDSUB}
 use Rattle.insn.specs.declared.Decoded.{Decoded}
+use Rattle.insn.specs.declared.Flow.{Flow}
+use Rattle.insn.specs.declared.Flow.the-variants.{Next, IndirectBranch, IndirectCall}
+use Rattle.insn.specs.declared.Insn.{Insn}
 use Rattle.insn.specs.declared.Operand.{Operand}
+use Rattle.arm.specs.Row.{among, _⇒_, rd, rn, rm, regOf, answer}
+use Rattle.misc.specs.Misc.{returnFlow, miscOf}
 use Rattle.home.specs.Table.{ignored}
 use Rattle.home.specs.Home.{clearAll, controlRow}
 use Rattle.parts.specs.Operands.{operandFlat}
 use Rattle.parts.specs.Parts.{at, isCount}
-use Rattle.home.specs.WordMisc.{status-layout, single-layout, several-layout, miscWord}
+use Rattle.home.specs.WordMisc.{status-layout, single-layout, single, several-layout, several, miscWord}
 use Rattle.home.proofs.Leads.{apart, Leads, bit-cases, two-cases, refusal}
 
 pub misc-keeps : (w addr : ℕ) → miscOf (clearAll (ignored (controlRow w)) w) addr ≡ miscOf w addr
@@ -31,6 +36,13 @@ misc-keeps w addr =
     by-test (eqb (field w 4 3) 3) (λ e. simp (apart, n0, n1, n2, e)) λ n3.
     by-test (eqb (field w 4 3) 5) (λ e. simp (apart, n0, n1, n2, n3, e)) λ n5.
     simp (n0, n1, n2, n3, n5)
+
+-- a name, and how its words are laid
+abbrev Laid : ℕ → (Insn → ℕ) → Type 0
+Laid name word = ((i : Insn) → i .name ≡ name → miscWord i ≡ word i) × (inside 38 48 name ≡ true)
+
+abbrev exchangeOf : ℕ → ℕ → ℕ → Flow → Decoded
+exchangeOf w addr name flow = answer w addr name flow (regOf w rm ∷ [])
 
 module _ (w addr : ℕ) (bound : w < 2 ^ 32) (group : field w 25 3 ≡ 0) (ten : field w 23 2 ≡ 2) (s : field w 20 1 ≡ 0) (seven : field w 7 1 ≡ 0) where
   abbrev Row : Type 0
@@ -70,15 +82,26 @@ module _ (w addr : ℕ) (bound : w < 2 ^ 32) (group : field w 25 3 ≡ 0) (ten :
           (clear-small _ 8 1 (clear-small _ 10 2 (clear-small w 12 4 bound))))
 
   -- bx, bxj and blx ignore 19:8
-  exchange : (kind : ℕ) → field w 4 3 ≡ kind → field w 21 2 ≡ 1
-      → join single-layout (field w 0 4 ∷ kind ∷ 0 ∷ 0 ∷ 0 ∷ 1 ∷ 2 ∷ 0 ∷ field w 28 4 ∷ []) ≡ clear w 8 12
-  exchange kind e op = simp (apart, group, ten, s, seven, e, op) at (whole single-layout (clear w 8 12) (clear-small w 8 12 bound))
+  exchange : (name kind : ℕ) (flow : Flow) → Laid name (λ i. single i (at i 0 .reg) kind 0) → field w 4 3 ≡ kind → field w 21 2 ≡ 1
+      → Leads miscWord 38 48 (clear w 8 12) (exchangeOf w addr name flow)
+  exchange name kind flow (laid, named) e op ok = (laid ((exchangeOf w addr name flow) .insn) refl ∙ home, named, refl)
+    where
+      home : join single-layout (field w 0 4 ∷ kind ∷ 0 ∷ 0 ∷ 0 ∷ 1 ∷ 2 ∷ 0 ∷ field w 28 4 ∷ []) ≡ clear w 8 12
+      home = simp (apart, group, ten, s, seven, e, op) at (whole single-layout (clear w 8 12) (clear-small w 8 12 bound))
+
+  -- bxj and blx have their 6:4 to themselves
+  exchange-alone : (name kind : ℕ) (flow : Flow) → Laid name (λ i. single i (at i 0 .reg) kind 0) → field w 4 3 ≡ kind
+      → Leads miscWord 38 48 (clear w 8 12) (among (field w 21 2) (1 ⇒ exchangeOf w addr name flow ∷ []))
+  exchange-alone name kind flow laid e =
+      by-test (eqb (field w 21 2) 1)
+      (λ op. simp op (exchange name kind flow laid e (eqb-true _ 1 op)))
+      (λ op ok. refusal (simp op at ok))
 
   bx : field w 4 3 ≡ 1 → Row
   unfolding controlRow
   bx e =
       by-test (eqb (field w 21 2) 1)
-      (λ op ok. (simp (e, op) (exchange 1 e (eqb-true _ 1 op)), simp (e, op), simp (e, op)))
+      (λ op. simp (e, op) (exchange BX 1 (returnFlow w) (λ i n. simp n, refl) e (eqb-true _ 1 op)))
       (λ op. by-test (eqb (field w 21 2) 3) (clz op) (λ n3 ok. refusal (simp (e, op, n3) at ok)))
     where
       clz : eqb (field w 21 2) 1 ≡ false → eqb (field w 21 2) 3 ≡ true → Row
@@ -91,34 +114,24 @@ module _ (w addr : ℕ) (bound : w < 2 ^ 32) (group : field w 25 3 ≡ 0) (ten :
               simp (apart, group, ten, s, seven, e, op3) at
               (whole several-layout (clear (clear w 16 4) 8 4) (clear-small _ 8 4 (clear-small w 16 4 bound)))
 
-  bxj : field w 4 3 ≡ 2 → Row
-  unfolding controlRow
-  bxj e =
-      by-test (eqb (field w 21 2) 1)
-      (λ op ok. (simp (e, op) (exchange 2 e (eqb-true _ 1 op)), simp (e, op), simp (e, op)))
-      (λ op ok. refusal (simp (e, op) at ok))
-
-  blx : field w 4 3 ≡ 3 → Row
-  unfolding controlRow
-  blx e =
-      by-test (eqb (field w 21 2) 1)
-      (λ op ok. (simp (e, op) (exchange 3 e (eqb-true _ 1 op)), simp (e, op), simp (e, op)))
-      (λ op ok. refusal (simp (e, op) at ok))
-
   -- the saturating adds ignore 11:8
   saturating : field w 4 3 ≡ 5 → Row
   unfolding controlRow
   saturating e =
       two-cases w 21
-      (λ op ok. (simp (e, op) (home 0 op), simp (e, op), simp (e, op)))
-      (λ op ok. (simp (e, op) (home 1 op), simp (e, op), simp (e, op)))
-      (λ op ok. (simp (e, op) (home 2 op), simp (e, op), simp (e, op)))
-      (λ op ok. (simp (e, op) (home 3 op), simp (e, op), simp (e, op)))
+      (λ op. simp (e, op) (leads QADD 0 (λ i n. simp n, refl) op))
+      (λ op. simp (e, op) (leads QSUB 1 (λ i n. simp n, refl) op))
+      (λ op. simp (e, op) (leads QDADD 2 (λ i n. simp n, refl) op))
+      (λ op. simp (e, op) (leads QDSUB 3 (λ i n. simp n, refl) op))
     where
-      home : (n : ℕ) → field w 21 2 ≡ n
-          → join several-layout (field w 0 4 ∷ 5 ∷ 0 ∷ 0 ∷ field w 12 4 ∷ field w 16 4 ∷ 0 ∷ n ∷ 2 ∷ 0 ∷ field w 28 4 ∷ [])
-          ≡ clear w 8 4
-      home n op = simp (apart, group, ten, s, seven, e, op) at (whole several-layout (clear w 8 4) (clear-small w 8 4 bound))
+      saturateOf : ℕ → Decoded
+      saturateOf name = answer w addr name Next (regOf w rd ∷ regOf w rm ∷ regOf w rn ∷ [])
+
+      leads : (name n : ℕ) → Laid name (λ i. several i 5 (at i 2 .reg) n) → field w 21 2 ≡ n → Leads miscWord 38 48 (clear w 8 4) (saturateOf name)
+      leads name n (laid, named) op ok = (laid ((saturateOf name) .insn) refl ∙ home, named, refl)
+        where
+          home : join several-layout (field w 0 4 ∷ 5 ∷ 0 ∷ 0 ∷ field w 12 4 ∷ field w 16 4 ∷ 0 ∷ n ∷ 2 ∷ 0 ∷ field w 28 4 ∷ []) ≡ clear w 8 4
+          home = simp (apart, group, ten, s, seven, e, op) at (whole several-layout (clear w 8 4) (clear-small w 8 4 bound))
 
   -- bkpt ignores nothing
   bkpt : field w 4 3 ≡ 7 → Row
@@ -133,11 +146,12 @@ module _ (w addr : ℕ) (bound : w < 2 ^ 32) (group : field w 25 3 ≡ 0) (ten :
       home op = simp (group, ten, s, seven, e, op) at (whole single-layout w bound)
 
   pub misc-leads : Leads miscWord 38 48 (clearAll (ignored (controlRow w)) w) (miscOf w addr)
+  unfolding controlRow
   misc-leads =
       by-test (eqb (field w 4 3) 0) (λ e. bit-cases w 21 (mrs (eqb-true _ 0 e)) (msr (eqb-true _ 0 e))) λ n0.
       by-test (eqb (field w 4 3) 1) (λ e. bx (eqb-true _ 1 e)) λ n1.
-      by-test (eqb (field w 4 3) 2) (λ e. bxj (eqb-true _ 2 e)) λ n2.
-      by-test (eqb (field w 4 3) 3) (λ e. blx (eqb-true _ 3 e)) λ n3.
+      by-test (eqb (field w 4 3) 2) (λ e. let k : field w 4 3 ≡ 2 = eqb-true _ 2 e in simp k (exchange-alone BXJ 2 IndirectBranch (λ i n. simp n, refl) k)) λ n2.
+      by-test (eqb (field w 4 3) 3) (λ e. let k : field w 4 3 ≡ 3 = eqb-true _ 3 e in simp k (exchange-alone BLX 3 IndirectCall (λ i n. simp n, refl) k)) λ n3.
       by-test (eqb (field w 4 3) 5) (λ e. saturating (eqb-true _ 5 e)) λ n5.
       by-test (eqb (field w 4 3) 7) (λ e. bkpt (eqb-true _ 7 e)) λ n7.
       λ ok. refusal (simp (n0, n1, n2, n3, n5, n7) at ok)
