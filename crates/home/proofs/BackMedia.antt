@@ -1,6 +1,6 @@
 -- Media: clearing what a row ignores changes no answer, and an answer leads back to its home word. Assumes nothing.
-use mathlib.Core.Path.{_≡_, refl}
-use mathlib.Core.Bool.{true, false}
+use mathlib.Core.Path.{_≡_, refl, sym, _∙_}
+use mathlib.Core.Bool.{Bool, true, false}
 use mathlib.Core.List.{[], _∷_}
 use Prim.Native.Nat.{ℕ, _+_, _-_, _*_, _/_, _%_, _^_, _<_}
 use native.Mathlib.Nat.{add-sub-cancel}
@@ -8,16 +8,18 @@ use native.Mathlib.Omega.{arith}
 use borrow.Author.Tests.{eqb-true, ltb-false}
 use lib.Arith.{digits-div, digits-mod}
 use lib.Dec.{eqb, ltb}
-use Rattle.word.specs.Choice.{inside, by-test}
+use Rattle.word.specs.Choice.{pick, inside, by-test}
 use Rattle.word.specs.Field.{field, clear, clear-small, small, splits}
 use Rattle.word.specs.Layout.{join, whole}
-use Rattle.insn.specs.Name.{SBFX, UBFX, SDIV, UDIV, REV, REV16, RBIT, REVSH, SXTB16, SXTAB16, SXTB, SXTAB, SXTH, SXTAH, UXTB16, UXTAB16, UXTB, UXTAB, UXTH, UXTAH}
+use Rattle.insn.specs.Name.{SBFX, UBFX, SDIV, UDIV, SSAT, USAT, REV, REV16, RBIT, REVSH, SXTB16, SXTAB16, SXTB, SXTAB, SXTH, SXTAH, UXTB16, UXTAB16, UXTB, UXTAB, UXTH, UXTAH}
+use Rattle.insn.specs.declared.Decoded.{Decoded}
 use Rattle.insn.specs.declared.Insn.{Insn}
-use Rattle.media.specs.Media.{mediaOf, udfOf, bfxOf, bfOf, divOf, ssatOf, usatOf, satShiftOf, revOf, rotateOf, extendOf, revOrExtendOf}
+use Rattle.media.specs.Media.{mediaOf, udfOf, bfxOf, bfOf, divOf, satOf, ssatOf, usatOf, satShiftOf, revOf, rotateOf, extendOf, revOrExtendOf}
 use Rattle.parts.specs.Operands.{operandFlat}
+use Rattle.parts.specs.Parts.{at, number}
 use Rattle.home.specs.Table.{ignored, ALL-READ, DIVIDES, SATURATES}
 use Rattle.home.specs.Home.{clearAll, mediaRow}
-use Rattle.home.specs.WordMedia.{udfLayout, bitsLayout, layout, satLayout, bfxWord, divWord, revWord, extendWord, addExtendWord, laidAs, mediaWord}
+use Rattle.home.specs.WordMedia.{udfLayout, bitsLayout, layout, satLayout, satLaid, bfxWord, divWord, revWord, extendWord, addExtendWord, laidAs, mediaWord}
 use Rattle.home.proofs.Leads.{apart, Leads, bit-cases, two-cases, refusal}
 
 -- 24:20 is 24:21 and bit 20
@@ -46,6 +48,36 @@ rotate-amount w = two-cases w 10 (λ e. simp e) (λ e. simp e) (λ e. simp e) (�
 last-bit : (m l : ℕ) → ltb m l ≡ false → l + (m - l + 1) - 1 ≡ m
 last-bit m l e = omega (arith, ltb-false m l e)
 
+-- a name, and how its words are laid
+abbrev Laid : ℕ → (Insn → ℕ) → Type 0
+Laid name word = ((i : Insn) → laidAs name i ≡ word i) × (inside 90 114 name ≡ true)
+
+-- the row of 24:20, where 5:4 = 01 and elsewhere
+abbrev rowAt : ℕ → Bool → ℕ
+rowAt op low =
+    pick (eqb op 17) DIVIDES
+    (pick (eqb op 19) DIVIDES
+    (pick low
+    (pick (eqb (op / 2) 5) SATURATES (pick (eqb (op / 2) 7) SATURATES ALL-READ))
+    ALL-READ))
+
+row-is : (w op : ℕ) → field w 20 5 ≡ op → (b : Bool) → eqb (field w 4 2) 1 ≡ b → mediaRow w ≡ rowAt op b
+unfolding mediaRow
+row-is w op is-op b low = simp (is-op, upper w op is-op, low)
+
+-- a saturate's name, its 24:21, and the number that it writes for 19:16
+abbrev Saturates : ℕ → ℕ → ℕ → ℕ → Type 0
+Saturates w name op amount =
+    ((i : Insn) → number (at i 1) ≡ amount → laidAs name i ≡ satLaid op (field w 16 4) i) × (inside 90 114 name ≡ true)
+
+ssat : (w : ℕ) → Saturates w SSAT 5 (field w 16 4 + 1)
+unfolding laidAs
+ssat w = (λ i n. simp (n, add-sub-cancel), refl)
+
+usat : (w : ℕ) → Saturates w USAT 7 (field w 16 4)
+unfolding laidAs
+usat w = (λ i n. simp n, refl)
+
 module _ (w addr : ℕ) (bound : w < 2 ^ 32) (group : field w 25 3 ≡ 3) (four : field w 4 1 ≡ 1) where
   -- "31, 111"
   udf-leads : field w 20 5 ≡ 31 → field w 5 3 ≡ 7 → Leads mediaWord 90 114 w (udfOf w addr)
@@ -59,10 +91,10 @@ module _ (w addr : ℕ) (bound : w < 2 ^ 32) (group : field w 25 3 ≡ 3) (four 
   bits-word low op is-low is-op = simp (group, four, is-low, is-op) at (whole bitsLayout w bound)
 
   -- "26, 27 sbfx and 30, 31 ubfx"
-  bfx-leads : (name op : ℕ) → ((i : Insn) → laidAs name i ≡ bfxWord op i) → inside 90 114 name ≡ true → field w 21 4 ≡ op → Leads mediaWord 90 114 w (bfxOf w addr name)
-  bfx-leads name op laid named is-op =
+  bfx-leads : (name op : ℕ) → Laid name (bfxWord (op / 2)) → field w 20 5 ≡ op → Leads mediaWord 90 114 w (bfxOf w addr name)
+  bfx-leads name op (laid, named) is-op =
       by-test (eqb (field w 5 2) 2)
-      (λ e ok. (simp (e, laid, add-sub-cancel) (bits-word 2 op (eqb-true _ 2 e) is-op), simp (e, named), simp e))
+      (λ e ok. (simp (e, laid, add-sub-cancel) (bits-word 2 (op / 2) (eqb-true _ 2 e) (upper w op is-op)), simp (e, named), simp e))
       (λ e ok. refusal (simp e at ok))
 
   -- "28, 29"
@@ -80,8 +112,8 @@ module _ (w addr : ℕ) (bound : w < 2 ^ 32) (group : field w 25 3 ≡ 3) (four 
           (λ r ok. (simp (e, over, r, m) (bits-word 0 14 e op), simp (e, over, r), simp (e, over, r)))
 
   -- "17 sdiv, 19 udiv" ignore 15:12
-  div-leads : (name op : ℕ) → ((i : Insn) → laidAs name i ≡ divWord op i) → inside 90 114 name ≡ true → field w 20 5 ≡ op → Leads mediaWord 90 114 (clear w 12 4) (divOf w addr name)
-  div-leads name op laid named is-op =
+  div-leads : (name op : ℕ) → Laid name (divWord op) → field w 20 5 ≡ op → Leads mediaWord 90 114 (clear w 12 4) (divOf w addr name)
+  div-leads name op (laid, named) is-op =
       by-test (eqb (field w 5 3) 0)
       (λ e ok. (simp (e, laid) (div-home (eqb-true _ 0 e)), simp (e, named), simp e))
       (λ e ok. refusal (simp e at ok))
@@ -90,23 +122,17 @@ module _ (w addr : ℕ) (bound : w < 2 ^ 32) (group : field w 25 3 ≡ 3) (four 
       div-home low = simp (apart, group, four, low, is-op) at (whole layout (clear w 12 4) (clear-small w 12 4 bound))
 
   -- the saturates ignore bit 20
-  sat-home : (op : ℕ) → field w 4 2 ≡ 1 → field w 21 4 ≡ op
-      → join satLayout (field w 0 4 ∷ 1 ∷ field w 6 1 ∷ field w 7 5 ∷ field w 12 4 ∷ field w 16 4 ∷ 0 ∷ op ∷ 3 ∷ field w 28 4 ∷ []) ≡ clear w 20 1
-  sat-home op low is-op =
-      simp (apart, group, low, is-op) at (whole satLayout (clear w 20 1) (clear-small w 20 1 bound))
-
-  ssat-leads : field w 4 2 ≡ 1 → field w 21 4 ≡ 5 → Leads mediaWord 90 114 (clear w 20 1) (ssatOf w addr)
-  unfolding laidAs
-  ssat-leads low op ok = (simp (shift-kind, shift-amount, add-sub-cancel) (sat-home 5 low op), refl, refl)
-
-  usat-leads : field w 4 2 ≡ 1 → field w 21 4 ≡ 7 → Leads mediaWord 90 114 (clear w 20 1) (usatOf w addr)
-  unfolding laidAs
-  usat-leads low op ok = (simp (shift-kind, shift-amount) (sat-home 7 low op), refl, refl)
+  sat-leads : (name op amount : ℕ) → Saturates w name (op / 2) amount → field w 20 5 ≡ op → field w 4 2 ≡ 1
+      → Leads mediaWord 90 114 (clear w 20 1) (satOf w addr name amount)
+  sat-leads name op amount (laid, named) is-op low ok =
+      (laid ((satOf w addr name amount) .insn) refl ∙ simp (shift-kind, shift-amount) sat-home, named, refl)
+    where
+      sat-home : join satLayout (field w 0 4 ∷ 1 ∷ field w 6 1 ∷ field w 7 5 ∷ field w 12 4 ∷ field w 16 4 ∷ 0 ∷ op / 2 ∷ 3 ∷ field w 28 4 ∷ []) ≡ clear w 20 1
+      sat-home = simp (apart, group, low, upper w op is-op) at (whole satLayout (clear w 20 1) (clear-small w 20 1 bound))
 
   -- "With Rn and 11:8 both 15"
-  rev-leads : (name op low : ℕ) → ((i : Insn) → laidAs name i ≡ revWord op low i) → inside 90 114 name ≡ true
-      → field w 20 5 ≡ op → field w 5 3 ≡ low → Leads mediaWord 90 114 w (revOf w addr name)
-  rev-leads name op low laid named is-op is-low =
+  rev-leads : (name op low : ℕ) → Laid name (revWord op low) → field w 20 5 ≡ op → field w 5 3 ≡ low → Leads mediaWord 90 114 w (revOf w addr name)
+  rev-leads name op low (laid, named) is-op is-low =
       by-test (eqb (field w 16 4) 15) (λ n. both-15 (eqb-true _ 15 n)) (λ n ok. refusal (simp n at ok))
     where
       both-15 : field w 16 4 ≡ 15 → Leads mediaWord 90 114 w (revOf w addr name)
@@ -119,11 +145,9 @@ module _ (w addr : ℕ) (bound : w < 2 ^ 32) (group : field w 25 3 ≡ 3) (four 
           rev-word e = simp (group, four, n, e, is-op, is-low) at (whole layout w bound)
 
   -- "7:5 = 011 and 9:8 = 00"
-  extend-leads : (plain adding op : ℕ)
-      → ((i : Insn) → laidAs plain i ≡ extendWord op i) → inside 90 114 plain ≡ true
-      → ((i : Insn) → laidAs adding i ≡ addExtendWord op i) → inside 90 114 adding ≡ true
-      → field w 20 5 ≡ op → Leads mediaWord 90 114 w (extendOf w addr plain adding)
-  extend-leads plain adding op laid named laid-adding named-adding is-op =
+  extend-leads : (plain adding op : ℕ) → Laid plain (extendWord op) → Laid adding (addExtendWord op) → field w 20 5 ≡ op
+      → Leads mediaWord 90 114 w (extendOf w addr plain adding)
+  extend-leads plain adding op (laid, named) (laid-adding, named-adding) is-op =
       by-test (eqb (field w 5 3) 3) (λ l. low (eqb-true _ 3 l)) (λ l ok. refusal (simp l at ok))
     where
       low : field w 5 3 ≡ 3 → Leads mediaWord 90 114 w (extendOf w addr plain adding)
@@ -141,151 +165,86 @@ module _ (w addr : ℕ) (bound : w < 2 ^ 32) (group : field w 25 3 ≡ 3) (four 
               extend-word : join layout (field w 0 4 ∷ 1 ∷ 3 ∷ field w 10 2 * 4 ∷ field w 12 4 ∷ field w 16 4 ∷ op ∷ 3 ∷ field w 28 4 ∷ []) ≡ w
               extend-word = simp (group, four, l, eleven, is-op) at (whole layout w bound)
 
-  abbrev Read : Type 0
-  Read = Leads mediaWord 90 114 w (mediaOf w addr)
-
-  abbrev Back : Type 0
-  Back = Leads mediaWord 90 114 (clearAll (ignored (mediaRow w)) w) (mediaOf w addr)
-
-  -- a row that ignores nothing
-  all-read : (op : ℕ) → eqb op 17 ≡ false → eqb op 19 ≡ false → eqb (op / 2) 5 ≡ false → eqb (op / 2) 7 ≡ false → field w 20 5 ≡ op → mediaRow w ≡ 0
-  unfolding mediaRow
-  all-read op n17 n19 n5 n7 is-op =
-      let u : field w 21 4 ≡ op / 2 = upper w op is-op in
-      by-test (eqb (field w 4 2) 1) (λ low. simp (is-op, u, low, n17, n19, n5, n7)) (λ low. simp (is-op, low, n17, n19))
-
-  reads-all : (op : ℕ) → eqb op 17 ≡ false → eqb op 19 ≡ false → eqb (op / 2) 5 ≡ false → eqb (op / 2) 7 ≡ false
-      → (field w 20 5 ≡ op → Read) → field w 20 5 ≡ op → Back
-  reads-all op n17 n19 n5 n7 leads is-op = rw (all-read op n17 n19 n5 n7 is-op) (leads is-op)
-
-  at-31 : field w 20 5 ≡ 31 → Read
-  unfolding laidAs
-  at-31 op =
-      by-test (eqb (field w 5 3) 7)
-      (λ low. simp (op, low) (udf-leads op (eqb-true _ 7 low)))
-      (λ low. simp (op, low) (bfx-leads UBFX 15 (λ i. refl) refl (upper w 31 op)))
-
-  at-26 : field w 20 5 ≡ 26 → Read
-  unfolding laidAs
-  at-26 op = simp op (bfx-leads SBFX 13 (λ i. refl) refl (upper w 26 op))
-
-  at-27 : field w 20 5 ≡ 27 → Read
-  unfolding laidAs
-  at-27 op = simp op (bfx-leads SBFX 13 (λ i. refl) refl (upper w 27 op))
-
-  at-30 : field w 20 5 ≡ 30 → Read
-  unfolding laidAs
-  at-30 op = simp op (bfx-leads UBFX 15 (λ i. refl) refl (upper w 30 op))
-
-  at-28 : field w 20 5 ≡ 28 → Read
-  at-28 op = simp op (bf-leads (upper w 28 op))
-
-  at-29 : field w 20 5 ≡ 29 → Read
-  at-29 op = simp op (bf-leads (upper w 29 op))
-
-  at-8 : field w 20 5 ≡ 8 → Read
-  unfolding laidAs
-  at-8 op = simp op (extend-leads SXTB16 SXTAB16 8 (λ i. refl) refl (λ i. refl) refl op)
-
-  at-12 : field w 20 5 ≡ 12 → Read
-  unfolding laidAs
-  at-12 op = simp op (extend-leads UXTB16 UXTAB16 12 (λ i. refl) refl (λ i. refl) refl op)
-
-  at-17 : field w 20 5 ≡ 17 → Back
-  unfolding laidAs mediaRow
-  at-17 op = simp op (div-leads SDIV 17 (λ i. refl) refl op)
-
-  at-19 : field w 20 5 ≡ 19 → Back
-  unfolding laidAs mediaRow
-  at-19 op = simp op (div-leads UDIV 19 (λ i. refl) refl op)
-
-  -- a saturate, or a row that ignores nothing
-  at-10 : field w 20 5 ≡ 10 → Back
-  unfolding laidAs mediaRow
-  at-10 op =
-      let u : field w 21 4 ≡ 5 = upper w 10 op in
-      by-test (eqb (field w 4 2) 1)
-      (λ low. simp (op, u, low) (ssat-leads (eqb-true _ 1 low) u))
-      (λ low. simp (op, low) (extend-leads SXTB SXTAB 10 (λ i. refl) refl (λ i. refl) refl op))
-
-  at-14 : field w 20 5 ≡ 14 → Back
-  unfolding laidAs mediaRow
-  at-14 op =
-      let u : field w 21 4 ≡ 7 = upper w 14 op in
-      by-test (eqb (field w 4 2) 1)
-      (λ low. simp (op, u, low) (usat-leads (eqb-true _ 1 low) u))
-      (λ low. simp (op, low) (extend-leads UXTB UXTAB 14 (λ i. refl) refl (λ i. refl) refl op))
-
-  rev-or-extend : (rev1 rev5 plain adding op : ℕ)
-      → ((i : Insn) → laidAs rev1 i ≡ revWord op 1 i) → inside 90 114 rev1 ≡ true
-      → ((i : Insn) → laidAs rev5 i ≡ revWord op 5 i) → inside 90 114 rev5 ≡ true
-      → field w 20 5 ≡ op → Leads mediaWord 90 114 w (extendOf w addr plain adding)
+  -- "/001" and "/101", or an extend
+  rev-or-extend : (rev1 rev5 plain adding op : ℕ) → Laid rev1 (revWord op 1) → Laid rev5 (revWord op 5)
+      → Laid plain (extendWord op) → Laid adding (addExtendWord op) → field w 20 5 ≡ op
       → Leads mediaWord 90 114 w (revOrExtendOf w addr rev1 rev5 plain adding)
-  rev-or-extend rev1 rev5 plain adding op laid1 named1 laid5 named5 is-op extend =
-      by-test (eqb (field w 5 3) 1) (λ e. simp e (rev-leads rev1 op 1 laid1 named1 is-op (eqb-true _ 1 e))) λ n1.
-      by-test (eqb (field w 5 3) 5) (λ e. simp (n1, e) (rev-leads rev5 op 5 laid5 named5 is-op (eqb-true _ 5 e))) λ n5.
-      simp (n1, n5) extend
+  rev-or-extend rev1 rev5 plain adding op is-rev1 is-rev5 is-plain is-adding is-op =
+      by-test (eqb (field w 5 3) 1) (λ e. simp e (rev-leads rev1 op 1 is-rev1 is-op (eqb-true _ 1 e))) λ n1.
+      by-test (eqb (field w 5 3) 5) (λ e. simp (n1, e) (rev-leads rev5 op 5 is-rev5 is-op (eqb-true _ 5 e))) λ n5.
+      simp (n1, n5) (extend-leads plain adding op is-plain is-adding is-op)
 
-  at-11 : field w 20 5 ≡ 11 → Back
-  unfolding laidAs mediaRow
-  at-11 op =
-      let u : field w 21 4 ≡ 5 = upper w 11 op in
-      by-test (eqb (field w 4 2) 1)
-      (λ low. simp (op, u, low) (ssat-leads (eqb-true _ 1 low) u))
-      (λ low. simp (op, low)
-      (rev-or-extend REV REV16 SXTH SXTAH 11 (λ i. refl) refl (λ i. refl) refl op
-      (extend-leads SXTH SXTAH 11 (λ i. refl) refl (λ i. refl) refl op)))
+  -- "31, 111", or ubfx
+  udf-or-bfx : field w 20 5 ≡ 31 → Leads mediaWord 90 114 w (pick (eqb (field w 5 3) 7) (udfOf w addr) (bfxOf w addr UBFX))
+  unfolding laidAs
+  udf-or-bfx op =
+      by-test (eqb (field w 5 3) 7)
+      (λ low. simp low (udf-leads op (eqb-true _ 7 low)))
+      (λ low. simp low (bfx-leads UBFX 31 (λ i. refl, refl) op))
 
-  at-15 : field w 20 5 ≡ 15 → Back
-  unfolding laidAs mediaRow
-  at-15 op =
-      let u : field w 21 4 ≡ 7 = upper w 15 op in
+  abbrev Back : ℕ → Type 0
+  Back row = Leads mediaWord 90 114 (clearAll (ignored row) w) (mediaOf w addr)
+
+  -- a value of 24:20 is in two rows of the table, by 5:4, or in one
+  by-low : (op : ℕ) → (field w 20 5 ≡ op → field w 4 2 ≡ 1 → Back (rowAt op true))
+      → (field w 20 5 ≡ op → eqb (field w 4 2) 1 ≡ false → Back (rowAt op false)) → eqb (field w 20 5) op ≡ true → Back (mediaRow w)
+  by-low op at-01 elsewhere e =
+      let is-op : field w 20 5 ≡ op = eqb-true _ op e in
       by-test (eqb (field w 4 2) 1)
-      (λ low. simp (op, u, low) (usat-leads (eqb-true _ 1 low) u))
-      (λ low. simp (op, low)
-      (rev-or-extend RBIT REVSH UXTH UXTAH 15 (λ i. refl) refl (λ i. refl) refl op
-      (extend-leads UXTH UXTAH 15 (λ i. refl) refl (λ i. refl) refl op)))
+      (λ low. rw (row-is w op is-op true low) (at-01 is-op (eqb-true _ 1 low)))
+      (λ low. rw (row-is w op is-op false low) (elsewhere is-op low))
+
+  either-way : (op row : ℕ) → rowAt op true ≡ row → rowAt op false ≡ row → (field w 20 5 ≡ op → Back row) → eqb (field w 20 5) op ≡ true → Back (mediaRow w)
+  either-way op row at-01 elsewhere leads = by-low op (λ is-op low. rw at-01 (leads is-op)) (λ is-op low. rw elsewhere (leads is-op))
 
   pub media-leads : Leads mediaWord 90 114 (clearAll (ignored (mediaRow w)) w) (mediaOf w addr)
+  unfolding laidAs
   media-leads =
-      by-test (eqb (field w 20 5) 31) (λ e. reads-all 31 refl refl refl refl at-31 (eqb-true _ 31 e)) λ n31.
-      by-test (eqb (field w 20 5) 26) (λ e. reads-all 26 refl refl refl refl at-26 (eqb-true _ 26 e)) λ n26.
-      by-test (eqb (field w 20 5) 27) (λ e. reads-all 27 refl refl refl refl at-27 (eqb-true _ 27 e)) λ n27.
-      by-test (eqb (field w 20 5) 30) (λ e. reads-all 30 refl refl refl refl at-30 (eqb-true _ 30 e)) λ n30.
-      by-test (eqb (field w 20 5) 28) (λ e. reads-all 28 refl refl refl refl at-28 (eqb-true _ 28 e)) λ n28.
-      by-test (eqb (field w 20 5) 29) (λ e. reads-all 29 refl refl refl refl at-29 (eqb-true _ 29 e)) λ n29.
-      by-test (eqb (field w 20 5) 17) (λ e. at-17 (eqb-true _ 17 e)) λ n17.
-      by-test (eqb (field w 20 5) 19) (λ e. at-19 (eqb-true _ 19 e)) λ n19.
-      by-test (eqb (field w 20 5) 10) (λ e. at-10 (eqb-true _ 10 e)) λ n10.
-      by-test (eqb (field w 20 5) 11) (λ e. at-11 (eqb-true _ 11 e)) λ n11.
-      by-test (eqb (field w 20 5) 14) (λ e. at-14 (eqb-true _ 14 e)) λ n14.
-      by-test (eqb (field w 20 5) 15) (λ e. at-15 (eqb-true _ 15 e)) λ n15.
-      by-test (eqb (field w 20 5) 8) (λ e. reads-all 8 refl refl refl refl at-8 (eqb-true _ 8 e)) λ n8.
-      by-test (eqb (field w 20 5) 12) (λ e. reads-all 12 refl refl refl refl at-12 (eqb-true _ 12 e)) λ n12.
+      by-test (eqb (field w 20 5) 31) (either-way 31 ALL-READ refl refl (λ op. simp op (udf-or-bfx op))) λ n31.
+      by-test (eqb (field w 20 5) 26) (either-way 26 ALL-READ refl refl (λ op. simp op (bfx-leads SBFX 26 (λ i. refl, refl) op))) λ n26.
+      by-test (eqb (field w 20 5) 27) (either-way 27 ALL-READ refl refl (λ op. simp op (bfx-leads SBFX 27 (λ i. refl, refl) op))) λ n27.
+      by-test (eqb (field w 20 5) 30) (either-way 30 ALL-READ refl refl (λ op. simp op (bfx-leads UBFX 30 (λ i. refl, refl) op))) λ n30.
+      by-test (eqb (field w 20 5) 28) (either-way 28 ALL-READ refl refl (λ op. simp op (bf-leads (upper w 28 op)))) λ n28.
+      by-test (eqb (field w 20 5) 29) (either-way 29 ALL-READ refl refl (λ op. simp op (bf-leads (upper w 29 op)))) λ n29.
+      by-test (eqb (field w 20 5) 17) (either-way 17 DIVIDES refl refl (λ op. simp op (div-leads SDIV 17 (λ i. refl, refl) op))) λ n17.
+      by-test (eqb (field w 20 5) 19) (either-way 19 DIVIDES refl refl (λ op. simp op (div-leads UDIV 19 (λ i. refl, refl) op))) λ n19.
+      by-test (eqb (field w 20 5) 10)
+      (by-low 10
+      (λ op low. simp (op, low) (sat-leads SSAT 10 (field w 16 4 + 1) (ssat w) op low))
+      (λ op low. simp (op, low) (extend-leads SXTB SXTAB 10 (λ i. refl, refl) (λ i. refl, refl) op)))
+      λ n10.
+      by-test (eqb (field w 20 5) 11)
+      (by-low 11
+      (λ op low. simp (op, low) (sat-leads SSAT 11 (field w 16 4 + 1) (ssat w) op low))
+      (λ op low. simp (op, low) (rev-or-extend REV REV16 SXTH SXTAH 11 (λ i. refl, refl) (λ i. refl, refl) (λ i. refl, refl) (λ i. refl, refl) op)))
+      λ n11.
+      by-test (eqb (field w 20 5) 14)
+      (by-low 14
+      (λ op low. simp (op, low) (sat-leads USAT 14 (field w 16 4) (usat w) op low))
+      (λ op low. simp (op, low) (extend-leads UXTB UXTAB 14 (λ i. refl, refl) (λ i. refl, refl) op)))
+      λ n14.
+      by-test (eqb (field w 20 5) 15)
+      (by-low 15
+      (λ op low. simp (op, low) (sat-leads USAT 15 (field w 16 4) (usat w) op low))
+      (λ op low. simp (op, low) (rev-or-extend RBIT REVSH UXTH UXTAH 15 (λ i. refl, refl) (λ i. refl, refl) (λ i. refl, refl) (λ i. refl, refl) op)))
+      λ n15.
+      by-test (eqb (field w 20 5) 8) (either-way 8 ALL-READ refl refl (λ op. simp op (extend-leads SXTB16 SXTAB16 8 (λ i. refl, refl) (λ i. refl, refl) op))) λ n8.
+      by-test (eqb (field w 20 5) 12) (either-way 12 ALL-READ refl refl (λ op. simp op (extend-leads UXTB16 UXTAB16 12 (λ i. refl, refl) (λ i. refl, refl) op))) λ n12.
       λ ok. refusal (simp (n31, n26, n27, n30, n28, n29, n17, n19, n10, n11, n14, n15, n8, n12) at ok)
 
 module _ (w addr : ℕ) where
-  -- with bit 20 cleared, 24:20 is even
-  even : (op : ℕ) → field w 21 4 ≡ op → field (clear w 20 1) 20 5 ≡ op * 2
-  even op e = omega (arith, simp (apart, e) at (splits (clear w 20 1) 20 4 1))
-
   abbrev Kept : ℕ → Type 0
   Kept home = mediaOf home addr ≡ mediaOf w addr
 
-  -- the saturates ignore bit 20
-  ssat-keeps : field w 4 2 ≡ 1 → field w 21 4 ≡ 5 → Kept (clear w 20 1)
-  ssat-keeps low e =
-      let v : field (clear w 20 1) 20 5 ≡ 10 = even 5 e in
-      bit-cases w 20
-      (λ b. let op : field w 20 5 ≡ 10 = simp (e, b) at (splits w 20 4 1) in simp (v, op, apart, low))
-      (λ b. let op : field w 20 5 ≡ 11 = simp (e, b) at (splits w 20 4 1) in simp (v, op, apart, low))
-
-  usat-keeps : field w 4 2 ≡ 1 → field w 21 4 ≡ 7 → Kept (clear w 20 1)
-  usat-keeps low e =
-      let v : field (clear w 20 1) 20 5 ≡ 14 = even 7 e in
-      bit-cases w 20
-      (λ b. let op : field w 20 5 ≡ 14 = simp (e, b) at (splits w 20 4 1) in simp (v, op, apart, low))
-      (λ b. let op : field w 20 5 ≡ 15 = simp (e, b) at (splits w 20 4 1) in simp (v, op, apart, low))
+  -- the saturates ignore bit 20: both values of 24:20 give one answer, which does not read it
+  sat-keeps : (op : ℕ) (of : ℕ → Decoded) → ((u : ℕ) → field u 4 2 ≡ 1 → field u 20 5 ≡ op * 2 + 0 → mediaOf u addr ≡ of u)
+      → ((u : ℕ) → field u 4 2 ≡ 1 → field u 20 5 ≡ op * 2 + 1 → mediaOf u addr ≡ of u) → of (clear w 20 1) ≡ of w
+      → field w 4 2 ≡ 1 → field w 21 4 ≡ op → Kept (clear w 20 1)
+  sat-keeps op of even odd same low e = gives (clear w 20 1) (simp (apart, low)) (simp (apart, e)) ∙ same ∙ sym (gives w low e)
+    where
+      gives : (u : ℕ) → field u 4 2 ≡ 1 → field u 21 4 ≡ op → mediaOf u addr ≡ of u
+      gives u at-01 is-op =
+          bit-cases u 20 (λ b. even u at-01 (simp (is-op, b) at (splits u 20 4 1))) (λ b. odd u at-01 (simp (is-op, b) at (splits u 20 4 1)))
 
   by-row : (row : ℕ) → mediaRow w ≡ row → Kept (clearAll (ignored row) w) → Kept (clearAll (ignored (mediaRow w)) w)
   by-row row is-row kept = rw is-row kept
@@ -297,7 +256,15 @@ media-keeps w addr group four =
     by-test (eqb (field w 20 5) 19) (λ e. by-row w addr DIVIDES (simp (n17, e)) (let op : field w 20 5 ≡ 19 = eqb-true _ 19 e in simp (apart, op))) λ n19.
     by-test (eqb (field w 4 2) 1)
     (λ low.
-    by-test (eqb (field w 21 4) 5) (λ e. by-row w addr SATURATES (simp (n17, n19, low, e)) (ssat-keeps w addr (eqb-true _ 1 low) (eqb-true _ 5 e))) λ n5.
-    by-test (eqb (field w 21 4) 7) (λ e. by-row w addr SATURATES (simp (n17, n19, low, n5, e)) (usat-keeps w addr (eqb-true _ 1 low) (eqb-true _ 7 e))) λ n7.
+    by-test (eqb (field w 21 4) 5)
+    (λ e.
+    by-row w addr SATURATES (simp (n17, n19, low, e))
+    (sat-keeps w addr 5 (λ u. ssatOf u addr) (λ u at-01 op. simp (op, at-01)) (λ u at-01 op. simp (op, at-01)) (simp apart) (eqb-true _ 1 low) (eqb-true _ 5 e)))
+    λ n5.
+    by-test (eqb (field w 21 4) 7)
+    (λ e.
+    by-row w addr SATURATES (simp (n17, n19, low, n5, e))
+    (sat-keeps w addr 7 (λ u. usatOf u addr) (λ u at-01 op. simp (op, at-01)) (λ u at-01 op. simp (op, at-01)) (simp apart) (eqb-true _ 1 low) (eqb-true _ 7 e)))
+    λ n7.
     by-row w addr ALL-READ (simp (n17, n19, low, n5, n7)) refl)
     (λ low. by-row w addr ALL-READ (simp (n17, n19, low)) refl)
