@@ -1,11 +1,11 @@
 -- The home word of a word, group by group. Assumes nothing.
 use mathlib.Core.Path.{_≡_, refl, ap}
-use mathlib.Core.Bool.{true, false}
+use mathlib.Core.Bool.{Bool, true, false}
 use Prim.Native.Nat.{ℕ}
 use native.Mathlib.Omega.{arith}
 use borrow.Author.Tests.{lt-ltb, ltb-true, ne-eqb}
 use lib.Dec.{eqb, ltb}
-use Rattle.word.specs.Choice.{pick, by-test, fails}
+use Rattle.word.specs.Choice.{pick, fails}
 use Rattle.word.specs.Field.{field, clear, splits}
 use Rattle.dp.specs.DpImm.{hintSlot}
 use Rattle.a32.specs.Decode.{controlOf}
@@ -73,59 +73,42 @@ module _ (w : ℕ) where
     unfolding homeOf rowOf raisesOf
     branch-home g = simp (c, g, fails)
 
+-- a bound passes through a choice, and holds of it where it holds of both
+through : (n : ℕ) (b : Bool) (x y : ℕ) → ltb (pick b x y) n ≡ pick b (ltb x n) (ltb y n)
+through n true x y = refl
+through n false x y = refl
+
+either : (b : Bool) → pick b true true ≡ true
+either true = refl
+either false = refl
+
+ruleset bounds = (through, either)
+
 -- every row of a group is in the table, and those of data processing ignore nothing at 20
 module _ (w : ℕ) where
   pub control-below : ltb (controlRow w) 15 ≡ true
   unfolding controlRow
-  control-below =
-      by-test (eqb (field w 4 3) 0) (λ e. bit-cases w 21 (λ b. simp (e, b)) (λ b. simp (e, b))) λ n0.
-      by-test (eqb (field w 4 3) 1) (λ e. by-test (eqb (field w 21 2) 1) (λ b. simp (n0, e, b)) (λ b. simp (n0, e, b))) λ n1.
-      by-test (eqb (field w 4 3) 2) (λ e. simp (n0, n1, e)) λ n2.
-      by-test (eqb (field w 4 3) 3) (λ e. simp (n0, n1, n2, e)) λ n3.
-      by-test (eqb (field w 4 3) 5) (λ e. simp (n0, n1, n2, n3, e)) (λ e. simp (n0, n1, n2, n3, e))
+  control-below = simp bounds
 
   move-below : ltb (moveRow w) 15 ≡ true
   unfolding moveRow
-  move-below =
-      by-test (eqb (field w 21 4) 13) (λ e. simp e) λ n13.
-      by-test (eqb (field w 21 4) 15) (λ e. simp (n13, e)) (λ e. simp (n13, e))
+  move-below = simp bounds
 
   pub dp-reg-below : ltb (dpRegRow w) 15 ≡ true
   unfolding dpRegRow
-  dp-reg-below =
-      by-test (eqb (field w 23 2) 2)
-      (λ e. by-test (eqb (field w 12 4) 15) (λ b. simp (e, b)) (λ b. simp (e, b)))
-      (λ e. simp e move-below)
+  dp-reg-below = simp (bounds, move-below)
 
   pub extra-below : ltb (extraRow w) 15 ≡ true
   unfolding extraRow
-  extra-below =
-      by-test (eqb (field w 5 2) 0)
-      (λ e.
-      bit-cases w 24
-      (λ x. by-test (eqb (field w 21 3) 0) (λ m. simp (e, x, m)) (λ m. simp (e, x, m)))
-      (λ x. bit-cases w 20 (λ m. simp (e, x, m)) (λ m. simp (e, x, m))))
-      (λ e. bit-cases w 22 (λ m. simp (e, m)) (λ m. simp (e, m)))
+  extra-below = simp bounds
 
   pub dp-imm-below : ltb (dpImmRow w) 15 ≡ true
   unfolding dpImmRow
-  dp-imm-below =
-      by-test (eqb (field w 20 5) 16) (λ e. simp e) λ n16.
-      by-test (eqb (field w 20 5) 20) (λ e. simp (n16, e)) λ n20.
-      by-test (eqb (field w 20 5) 18) (λ e. by-test (hintSlot w) (λ b. simp (n16, n20, e, b)) (λ b. simp (n16, n20, e, b))) λ n18.
-      by-test (eqb (field w 20 5) 22) (λ e. simp (n16, n20, n18, e)) λ n22.
-      by-test (eqb (field w 23 2) 2) (λ e. simp (n16, n20, n18, n22, e)) (λ e. simp (n16, n20, n18, n22, e) move-below)
+  dp-imm-below = simp (bounds, move-below)
 
   pub media-below : ltb (mediaRow w) 17 ≡ true
   unfolding mediaRow
-  media-below =
-      by-test (eqb (field w 20 5) 17) (λ e. simp e) λ n17.
-      by-test (eqb (field w 20 5) 19) (λ e. simp (n17, e)) λ n19.
-      by-test (eqb (field w 4 2) 1)
-      (λ e.
-      by-test (eqb (field w 21 4) 5) (λ m. simp (n17, n19, e, m)) λ n5.
-      by-test (eqb (field w 21 4) 7) (λ m. simp (n17, n19, e, n5, m)) (λ m. simp (n17, n19, e, n5, m)))
-      (λ e. simp (n17, n19, e))
+  media-below = simp bounds
 
 -- a row below 15 is below 17
 pub fewer : (row : ℕ) → ltb row 15 ≡ true → ltb row 17 ≡ true
@@ -165,22 +148,11 @@ coprocessor-home w c p = simp (c, isnt 0 refl, isnt 1 refl, isnt 2 refl, isnt 3 
 pub row-below : (w : ℕ) → ltb (rowOf w) 17 ≡ true
 unfolding rowOf dpMiscRow plainRow
 row-below w =
-    by-test (eqb (field w 28 4) 15)
-    (λ c. by-test (eqb (field w 25 3) 5) (λ g. simp (c, g)) (λ g. simp (c, g)))
-    (λ c.
-    by-test (eqb (field w 25 3) 0)
-    (λ g.
-    bit-cases w 4
-    (λ four. simp (c, g, four) plain)
-    (λ four. bit-cases w 7 (λ seven. simp (c, g, four, seven) plain) (λ seven. simp (c, g, four, seven) (fewer (extraRow w) (extra-below w)))))
-    λ n0.
-    by-test (eqb (field w 25 3) 1) (λ g. simp (c, n0, g) (fewer (dpImmRow w) (dp-imm-below w))) λ n1.
-    by-test (eqb (field w 25 3) 3)
-    (λ g. bit-cases w 4 (λ four. simp (c, n0, n1, g, four)) (λ four. simp (c, n0, n1, g, four) (media-below w)))
-    (λ g. simp (c, n0, n1, g)))
-  where
-    plain : ltb (pick (controlOf w) (controlRow w) (dpRegRow w)) 17 ≡ true
-    plain =
-        by-test (controlOf w)
-        (λ e. simp e (fewer (controlRow w) (control-below w)))
-        (λ e. simp e (fewer (dpRegRow w) (dp-reg-below w)))
+    simp (
+      bounds,
+      fewer (controlRow w) (control-below w),
+      fewer (dpRegRow w) (dp-reg-below w),
+      fewer (extraRow w) (extra-below w),
+      fewer (dpImmRow w) (dp-imm-below w),
+      media-below w,
+    )
