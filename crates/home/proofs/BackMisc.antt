@@ -15,7 +15,7 @@ use Rattle.insn.specs.declared.Flow.the-variants.{Next, IndirectBranch, Indirec
 use Rattle.insn.specs.declared.Insn.{Insn}
 use Rattle.insn.specs.declared.Operand.{Operand}
 use Rattle.arm.specs.Row.{among, _⇒_, rd, rn, rm, regOf, answer}
-use Rattle.misc.specs.Misc.{returnFlow, miscOf}
+use Rattle.misc.specs.Misc.{sourceOf, returnFlow, miscOf}
 use Rattle.home.specs.Table.{ignored}
 use Rattle.home.specs.Home.{clearAll, controlRow}
 use Rattle.parts.specs.Operands.{operandFlat}
@@ -52,17 +52,17 @@ module _ (w addr : ℕ) (bound : w < 2 ^ 32) (group : field w 25 3 ≡ 0) (ten :
   unfolding controlRow
   mrs e m =
       by-test (eqb (field w 9 1) 0)
-      (λ nine.
-      bit-cases w 22
-      (λ r ok. (simp (e, m, nine, r) (home 0 r (eqb-true _ 0 nine)), simp (e, m, nine, r), simp (e, m, nine, r)))
-      (λ r ok. (simp (e, m, nine, r) (home 1 r (eqb-true _ 0 nine)), simp (e, m, nine, r), simp (e, m, nine, r))))
+      (λ nine ok. (simp (e, m, nine, source) (home (eqb-true _ 0 nine)), simp (e, m, nine), simp (e, m, nine)))
       (λ nine ok. refusal (simp (e, nine) at ok))
     where
-      home : (n : ℕ) → field w 22 1 ≡ n → field w 9 1 ≡ 0
-          → join status-layout (0 ∷ 0 ∷ 0 ∷ 0 ∷ 0 ∷ 0 ∷ field w 12 4 ∷ 0 ∷ 0 ∷ 0 ∷ n ∷ 2 ∷ 0 ∷ field w 28 4 ∷ [])
+      source : operandFlat (sourceOf w) .how ≡ field w 22 1
+      source = bit-cases w 22 (λ r. simp r) (λ r. simp r)
+
+      home : field w 9 1 ≡ 0
+          → join status-layout (0 ∷ 0 ∷ 0 ∷ 0 ∷ 0 ∷ 0 ∷ field w 12 4 ∷ 0 ∷ 0 ∷ 0 ∷ field w 22 1 ∷ 2 ∷ 0 ∷ field w 28 4 ∷ [])
           ≡ clear (clear (clear (clear w 16 4) 10 2) 8 1) 0 4
-      home n r nine =
-          simp (apart, group, ten, s, seven, e, m, r, nine) at
+      home nine =
+          simp (apart, group, ten, s, seven, e, m, nine) at
           (whole status-layout (clear (clear (clear (clear w 16 4) 10 2) 8 1) 0 4)
           (clear-small _ 0 4 (clear-small _ 8 1 (clear-small _ 10 2 (clear-small w 16 4 bound)))))
 
