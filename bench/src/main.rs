@@ -162,6 +162,30 @@ fn others(input: &Words) {
     println!("| encode: the difference | {:.1} |", trip - decoded);
     println!("| home word | {homed:.1} |");
     println!();
+    library(input.what, &accepted[..accepted.len().min(1024)]);
+}
+
+/// The library's own calls, decoding to a row and encoding from one. So few words that their rows stay in the cache.
+fn library(what: &str, words: &[u32]) {
+    let mut rows = vec![[0; 49]; words.len()];
+    for (word, row) in words.iter().zip(&mut rows) {
+        assert_eq!(proved::decoded_to(*word, ADDRESS, row), 0);
+    }
+    let mut row = [0; 49];
+    let mut next = rows.iter().cycle();
+    let [decoded, encoded] = times(
+        words,
+        [
+            &mut each(|word| proved::decoded_to(word, ADDRESS, &mut row).into()),
+            &mut each(|_| next.next().map_or(0, proved::encoded)),
+        ],
+    );
+    println!("| {what}, accepted, {} words, ns a word | proved |", words.len());
+    println!("|---|---:|");
+    println!("| brassdozen_decode, to a row | {decoded:.1} |");
+    println!("| brassdozen_encode, from a row | {encoded:.1} |");
+    println!("| encode / decode | {:.2} |", encoded / decoded);
+    println!();
 }
 
 /// Whole listings, by the number of words.

@@ -5,6 +5,8 @@ mod linked {
         pub safe fn decoded(word: u32, address: u64) -> u64;
         pub safe fn trip(word: u32, address: u64) -> u64;
         pub safe fn brassdozen_home(word: u32) -> u64;
+        pub fn brassdozen_decode(word: u32, address: u64, row: *mut u64, length: usize) -> u8;
+        pub fn brassdozen_encode(row: *const u64, length: usize) -> u64;
         pub fn brassdozen_line(address: u64, word: u32, out: *mut u8, room: usize) -> u64;
         pub fn brassdozen_listing(
             section: *const u8,
@@ -16,6 +18,21 @@ mod linked {
 }
 
 pub use linked::{brassdozen_home as homed, decoded, trip};
+
+/// An instruction value as the library's numbers.
+pub type Row = [u64; 49];
+
+/// The refusal of a word, whose answer is written to `row` if it has one.
+pub fn decoded_to(word: u32, address: u64, row: &mut Row) -> u8 {
+    // Safety: Rattle's `&mut [u64]` is a pointer and how many numbers it points at.
+    unsafe { linked::brassdozen_decode(word, address, row.as_mut_ptr(), row.len()) }
+}
+
+/// The word that the library gives for a row.
+pub fn encoded(row: &Row) -> u64 {
+    // Safety: as above; the row is only read.
+    unsafe { linked::brassdozen_encode(row.as_ptr(), row.len()) }
+}
 
 /// The length of the line of a word, which is written to the start of `out`.
 pub fn lined(address: u64, word: u32, out: &mut [u8]) -> usize {

@@ -27,7 +27,7 @@ use Rattle.insn.specs.declared.Flow.the-variants.{Next, Branch, CondBranch, Ind
 use Rattle.insn.specs.declared.Insn.{Insn}
 use Rattle.parts.specs.declared.Flat.{Flat}
 use Rattle.parts.specs.Operands.{signNumber, markNumber, indexNumber, indexReg, indexAmount, memFlat, operandFlat}
-use Rattle.same.specs.Same.{sameFlat, sameOperand, samePlaces, sameFlow, sameOf}
+use Rattle.same.specs.Same.{sameStarts, sameEnds, sameFlat, sameOperand, samePlaces, sameFlow, sameOf}
 
 -- the way back from the numbers
 
@@ -155,13 +155,13 @@ step a b u h = let s = parts (eqb a b) u h in (eqb-true a b (s .0), s .1)
 
 flat-equal : (x y : Flat) → sameFlat x y ≡ true → x ≡ y
 flat-equal x y h =
-    let kind = step (x .kind) (y .kind) _ h in
+    let halves = parts (sameStarts x y) (sameEnds x y) h in
+    let kind = step (x .kind) (y .kind) _ (halves .0) in
     let reg = step (x .reg) (y .reg) _ (kind .1) in
     let how = step (x .how) (y .how) _ (reg .1) in
     let amount = step (x .amount) (y .amount) _ (how .1) in
     let negative = step (x .negative) (y .negative) _ (amount .1) in
-    let value = step (x .value) (y .value) _ (negative .1) in
-    let index = step (x .index) (y .index) _ (value .1) in
+    let index = step (x .index) (y .index) _ (halves .1) in
     let mode = step (x .mode) (y .mode) _ (index .1) in
     let size = step (x .size) (y .size) _ (mode .1) in
     let decimal = step (x .decimal) (y .decimal) _ (size .1) in
@@ -171,7 +171,7 @@ flat-equal x y h =
       how = how .0 i;
       amount = amount .0 i;
       negative = negative .0 i;
-      value = value .0 i;
+      value = eqb-true (x .value) (y .value) (negative .1) i;
       index = index .0 i;
       mode = mode .0 i;
       size = size .0 i;

@@ -18,13 +18,15 @@ sameEnds x y =
     (both (eqb (x .mode) (y .mode))
     (both (eqb (x .size) (y .size)) (both (eqb (x .decimal) (y .decimal)) (eqb (x .minus) (y .minus)))))
 
-abbrev pub sameFlat : Flat → Flat → Bool
-sameFlat x y =
+abbrev pub sameStarts : Flat → Flat → Bool
+sameStarts x y =
     both (eqb (x .kind) (y .kind))
     (both (eqb (x .reg) (y .reg))
     (both (eqb (x .how) (y .how))
-    (both (eqb (x .amount) (y .amount))
-    (both (eqb (x .negative) (y .negative)) (both (eqb (x .value) (y .value)) (sameEnds x y))))))
+    (both (eqb (x .amount) (y .amount)) (both (eqb (x .negative) (y .negative)) (eqb (x .value) (y .value))))))
+
+abbrev pub sameFlat : Flat → Flat → Bool
+sameFlat x y = both (sameStarts x y) (sameEnds x y)
 
 abbrev pub sameOperand : Operand → Operand → Bool
 sameOperand x y = sameFlat (operandFlat x) (operandFlat y)

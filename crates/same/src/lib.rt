@@ -1,12 +1,14 @@
 //! Equality of two instruction values, for a program that compares answers.
 use insn::Flow;
 use insn::Insn;
+use insn::Operand;
 use insn::PLACES;
 use insn::Place;
 use parts::Flat;
 use parts::flatten;
 ghost use mathlib.Core.Path.{_≡_};
-ghost use Rattle.same.specs.Same.{sameEnds, sameFlat, sameFlow, sameOperand, samePlaces, sameOf};
+ghost use Rattle.parts.specs.Operands.{operandFlat};
+ghost use Rattle.same.specs.Same.{sameStarts, sameEnds, sameFlat, sameFlow, sameOperand, samePlaces, sameOf};
 
 /// Whether `a` and `b` are the same instruction. Each test is made only where the ones before it hold.
 pub fn same(a: Insn, b: Insn) -> bool
@@ -73,27 +75,51 @@ fn same_places(a: [Place; PLACES], b: [Place; PLACES]) -> bool
     }
 }
 
+/// Only the numbers that an operand of the kind can have are looked at.
 fn same_place(a: Place, b: Place) -> bool
     ensures { λ r. ⌜ r ≡ sameOperand (a .operand) (b .operand) ⌝ }
 {
     let x = a.operand;
     let y = b.operand;
-    equal(flatten(x), flatten(y))
+    let kind = x.number();
+    if kind == y.number() {
+        match kind {
+            0 => true,
+            1 => register(x) == register(y),
+            13 => equal(flatten(x), flatten(y)),
+            _ => equal_starts(flatten(x), flatten(y)),
+        }
+    } else {
+        false
+    }
+}
+
+fn register(o: Operand) -> u8
+    ensures { λ r. ⌜ r ≡ operandFlat o .reg ⌝ }
+{
+    flatten(o).reg
 }
 
 fn equal(a: Flat, b: Flat) -> bool
     ensures { λ r. ⌜ r ≡ sameFlat a b ⌝ }
+{
+    if equal_starts(a, b) {
+        equal_ends(a, b)
+    } else {
+        false
+    }
+}
+
+/// Whether the fields that are not only a memory reference's are equal.
+fn equal_starts(a: Flat, b: Flat) -> bool
+    ensures { λ r. ⌜ r ≡ sameStarts a b ⌝ }
 {
     if a.kind == b.kind {
         if a.reg == b.reg {
             if a.how == b.how {
                 if a.amount == b.amount {
                     if a.negative == b.negative {
-                        if a.value == b.value {
-                            equal_ends(a, b)
-                        } else {
-                            false
-                        }
+                        a.value == b.value
                     } else {
                         false
                     }

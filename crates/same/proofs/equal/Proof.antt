@@ -1,62 +1,21 @@
 -- `same::equal` meets its contract. Assumes nothing.
 use borrow.Author.Needs.{needs}
-use Rattle.same.proofs.Tests.{equal, unequal}
+use mathlib.Core.Path.{sym, _∙_}
+use Rattle.same.proofs.Tests.{passed, failed}
 use Rattle.same.proofs.equal.Statement.{statement}
 use Rattle.same.proofs.equal.Tie as tie
+
+equal-starts-requires : tie.Need-equal-starts-requires
+equal-starts-requires c κs = search needs
 
 equal-ends-requires : tie.Need-equal-ends-requires
 equal-ends-requires c κs = search needs
 
 returns : tie.Need-returns
-returns c =
-    equal (c .before .before .before .before .before .before .before .before .before .before .before .before .before .before .before .before .if1 .taken)
-    (equal (c .before .before .before .before .before .before .before .before .before .before .before .before .before .if2 .taken)
-    (equal (c .before .before .before .before .before .before .before .before .before .before .if3 .taken)
-    (equal (c .before .before .before .before .before .before .before .if4 .taken)
-    (equal (c .before .before .before .before .if5 .taken)
-    (equal (c .before .if6 .taken)
-    (c .equal-ends .ensures))))))
+returns c = passed (sym (c .before .before .equal-starts .ensures) ∙ c .before .if1 .taken) (c .equal-ends .ensures)
 
 returns-2 : tie.Need-returns-2
-returns-2 c =
-    equal (c .before .before .before .before .before .before .before .before .before .before .before .before .before .before .before .if1 .taken)
-    (equal (c .before .before .before .before .before .before .before .before .before .before .before .before .if2 .taken)
-    (equal (c .before .before .before .before .before .before .before .before .before .if3 .taken)
-    (equal (c .before .before .before .before .before .before .if4 .taken)
-    (equal (c .before .before .before .if5 .taken)
-    (unequal _ (c .if6 .left))))))
-
-returns-3 : tie.Need-returns-3
-returns-3 c =
-    equal (c .before .before .before .before .before .before .before .before .before .before .before .before .if1 .taken)
-    (equal (c .before .before .before .before .before .before .before .before .before .if2 .taken)
-    (equal (c .before .before .before .before .before .before .if3 .taken)
-    (equal (c .before .before .before .if4 .taken)
-    (unequal _ (c .if5 .left)))))
-
-returns-4 : tie.Need-returns-4
-returns-4 c =
-    equal (c .before .before .before .before .before .before .before .before .before .if1 .taken)
-    (equal (c .before .before .before .before .before .before .if2 .taken)
-    (equal (c .before .before .before .if3 .taken)
-    (unequal _ (c .if4 .left))))
-
-returns-5 : tie.Need-returns-5
-returns-5 c =
-    equal (c .before .before .before .before .before .before .if1 .taken)
-    (equal (c .before .before .before .if2 .taken)
-    (unequal _ (c .if3 .left)))
-
-returns-6 : tie.Need-returns-6
-returns-6 c =
-    equal (c .before .before .before .if1 .taken)
-    (unequal _ (c .if2 .left))
-
-returns-7 : tie.Need-returns-7
-returns-7 c =
-    unequal _ (c .if1 .left)
+returns-2 c = failed _ (sym (c .before .equal-starts .ensures) ∙ c .if1 .left)
 
 pub equal-spec : {M : Type 1} → statement M
-equal-spec =
-    tie.close
-    (tie.spec equal-ends-requires returns returns-2 returns-3 returns-4 returns-5 returns-6 returns-7)
+equal-spec = tie.close (tie.spec equal-starts-requires equal-ends-requires returns returns-2)

@@ -1,7 +1,26 @@
 -- `same::same_place` meets its contract. Assumes nothing.
 use borrow.Author.Needs.{needs}
+use mathlib.Core.Path.{sym, ap, _∙_}
+use mathlib.Core.Bool.{Bool}
+use Rattle.word.specs.Choice.{both}
+use Rattle.parts.specs.Operands.{operandFlat}
+use Rattle.same.specs.Same.{sameStarts}
+use Rattle.same.proofs.Numbered.{kind-is, none-is, register-is, plain-ends}
+use Rattle.same.proofs.Tests.{unequal, failed, last}
 use Rattle.same.proofs.same_place.Statement.{statement}
 use Rattle.same.proofs.same_place.Tie as tie
+
+number-requires : tie.Need-number-requires
+number-requires c κs = search needs
+
+number-requires-2 : tie.Need-number-requires-2
+number-requires-2 c κs = search needs
+
+register-requires : tie.Need-register-requires
+register-requires c κs = search needs
+
+register-requires-2 : tie.Need-register-requires-2
+register-requires-2 c κs = search needs
 
 flatten-requires : tie.Need-flatten-requires
 flatten-requires c κs = search needs
@@ -12,8 +31,79 @@ flatten-requires-2 c κs = search needs
 equal-requires : tie.Need-equal-requires
 equal-requires c κs = search needs
 
+flatten-requires-3 : tie.Need-flatten-requires-3
+flatten-requires-3 c κs = search needs
+
+flatten-requires-4 : tie.Need-flatten-requires-4
+flatten-requires-4 c κs = search needs
+
+equal-starts-requires : tie.Need-equal-starts-requires
+equal-starts-requires c κs = search needs
+
 returns : tie.Need-returns
-returns c = simp (c .equal .ensures, c .before .flatten2 .ensures, c .before .before .flatten .ensures)
+returns c =
+    let args = c .before .before .before .before .args in
+    let kind = c .match .keys1 in
+    rw (
+      none-is (args .a .operand) (sym (c .before .before .before .number .ensures) ∙ kind),
+      none-is (args .b .operand) (sym (c .before .before .number2 .ensures) ∙ sym (c .before .if1 .taken) ∙ kind),
+    )
+
+returns-2 : tie.Need-returns-2
+returns-2 c =
+    let args = c .before .before .before .before .before .before .args in
+    let kind = c .before .before .match .keys2 in
+    rw (
+      register-is (args .a .operand) (sym (c .before .before .before .before .before .number .ensures) ∙ kind),
+      register-is (args .b .operand) (sym (c .before .before .before .before .number2 .ensures) ∙ sym (c .before .before .before .if1 .taken) ∙ kind),
+      c .register2 .ensures,
+      c .before .register .ensures,
+    )
+    (last _ ∙ last _)
+
+returns-3 : tie.Need-returns-3
+returns-3 c = simp (c .equal .ensures, c .before .flatten2 .ensures, c .before .before .flatten .ensures)
+
+returns-4 : tie.Need-returns-4
+returns-4 c =
+    let args = c .before .before .before .before .before .before .before .args in
+    let first = c .before .before .before .before .before .before .number .ensures in
+    let second = c .before .before .before .before .if1 .taken ∙ c .before .before .before .before .before .number2 .ensures in
+    let other = c .before .before .before .match .rest .1 in
+    simp (c .equal-starts .ensures, c .before .flatten4 .ensures, c .before .before .flatten3 .ensures)
+    (last _
+    ∙ ap (λ (e : Bool). both (sameStarts (operandFlat (args .a .operand)) (operandFlat (args .b .operand))) e)
+    (sym (plain-ends (args .a .operand) (args .b .operand) (λ e. other (first ∙ e)) (λ e. other (second ∙ e)))))
+
+returns-5 : tie.Need-returns-5
+returns-5 c =
+    let args = c .before .before .before .args in
+    failed _
+    (sym
+    (unequal _ λ e.
+    c .if1 .left
+    (c .before .before .number .ensures
+    ∙ sym (kind-is (args .a .operand))
+    ∙ e
+    ∙ kind-is (args .b .operand)
+    ∙ sym (c .before .number2 .ensures))))
 
 pub same-place-spec : {M : Type 1} → statement M
-same-place-spec = tie.close (tie.spec flatten-requires flatten-requires-2 equal-requires returns)
+same-place-spec =
+    tie.close
+    (tie.spec
+    number-requires
+    number-requires-2
+    register-requires
+    register-requires-2
+    flatten-requires
+    flatten-requires-2
+    equal-requires
+    flatten-requires-3
+    flatten-requires-4
+    equal-starts-requires
+    returns
+    returns-2
+    returns-3
+    returns-4
+    returns-5)
