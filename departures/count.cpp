@@ -13,7 +13,7 @@ extern "C" uint16_t row(uint32_t word);
 
 using Rows = std::set<std::string>;
 
-// crates/rows/specs/Titles.antt, and the list of refused rows of crates/manual/specs/A8.antt
+// crates/tables/specs/Titles.antt, and the list of refused rows of crates/manual/specs/A8.antt
 static const std::vector<std::string> titles = {
 #include "titles.inc"
 };

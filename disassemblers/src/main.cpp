@@ -12,7 +12,7 @@
 #include <tuple>
 #include <vector>
 
-// crates/rows/specs/Titles.antt
+// crates/tables/specs/Titles.antt
 static const char *const titles[] = {
 #include "titles.inc"
 };

@@ -11,9 +11,9 @@ use Rattle.word.specs.Every.{at-each}
 use Rattle.word.specs.Field.{field, small}
 use Rattle.manual.specs.A5 as A5
 use Rattle.manual.specs.Pattern.{like}
-use Rattle.rows.specs.Titles.{numberOf, Numbered}
-use Rattle.rows.proofs.Place.{tests-alike}
-use Rattle.rows.proofs.Parts.{media-op1, unconditional-op1, both-false, pick-same}
+use Rattle.tables.specs.Titles.{numberOf, Numbered}
+use Rattle.tables.proofs.Place.{tests-alike}
+use Rattle.tables.proofs.Parts.{media-op1, unconditional-op1, both-false, pick-same}
 
 -- a row that stands in another table
 pub lead : {s t : String} {n : ℕ} → s ≡ t → Numbered t n → Numbered s n

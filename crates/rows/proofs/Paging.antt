@@ -14,11 +14,11 @@ use Rattle.word.specs.Field.{field}
 use Rattle.manual.specs.A5.{tableRow}
 use Rattle.manual.specs.A8.{isAmong, returning, oneWord, fewerThanTwo, rowOf, pageOf, otherPageOf}
 use Rattle.manual.specs.Reads.{isSet}
-use Rattle.rows.specs.Titles.{titleAt, numberOf, Numbered}
+use Rattle.tables.specs.Titles.{titleAt, numberOf, Numbered}
 use Rattle.rows.specs.Told.{title-is, numbered}
 use Rattle.rows.proofs.Leading.{lead}
-use Rattle.rows.proofs.Place.{listed, at, tests-alike}
-use Rattle.rows.proofs.Parts.{both-false}
+use Rattle.tables.proofs.Place.{listed, at, tests-alike}
+use Rattle.tables.proofs.Parts.{both-false}
 
 -- the array of the pages that return
 abbrev byteAt : ℕ → ℕ

@@ -2,7 +2,7 @@
 -- source. Assumes nothing.
 use mathlib.Core.Path.{_≡_, _∙_, sym}
 use Rattle.manual.specs.A8.{rowOf}
-use Rattle.rows.specs.Titles.{titleAt}
+use Rattle.tables.specs.Titles.{titleAt}
 use Rattle.rows.specs.Told.{title-is}
 use Rattle.rows.proofs.row.Reads as row
 

@@ -1,3 +1,1 @@
-pub mod Titles
-pub mod Columns
 pub mod Told

@@ -10,7 +10,7 @@ use lib.ListN.{length}
 use lib.Text.{eqt, eqt→eq}
 use Rattle.word.specs.Choice.{pick}
 use Rattle.word.specs.Every.{at-each}
-use Rattle.rows.specs.Titles.{titles, placeIn, numberOf, titleIn, titleAt, Numbered}
+use Rattle.tables.specs.Titles.{titles, placeIn, numberOf, titleIn, titleAt, Numbered}
 
 module _ (s t : String) (ts : List String) where
   next : (b : Bool) → eqt s t ≡ b → (placeIn s ts < length ts → titleIn ts (placeIn s ts) ≡ s) → pick b 0 (suc (placeIn s ts)) < suc (length ts) → titleIn (t ∷ ts) (pick b 0 (suc (placeIn s ts))) ≡ s

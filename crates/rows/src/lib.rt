@@ -1,15 +1,13 @@
 //! The number of a word's row in the manual: the executable twin of the tables in `manual`.
-mod columns;
 mod leads;
 mod pages;
-mod tables;
 
 use crate::leads::table_row;
 use crate::pages::is_return;
 use crate::pages::is_returning;
 use crate::pages::other_page;
 ghost use Rattle.manual.specs.A8.{rowOf};
-ghost use Rattle.rows.specs.Titles.{Numbered};
+ghost use Rattle.tables.specs.Titles.{Numbered};
 
 const SUBS_PC_LR: u16 = 259;
 

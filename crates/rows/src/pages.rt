@@ -1,5 +1,5 @@
 //! Chapter A8's "SEE": from a page to the one that reads the word.
-use crate::columns::column;
+use tables::columns::column;
 ghost use mathlib.Core.Path.{_≡_};
 ghost use Prim.Native.Nat.{_<_};
 ghost use lib.Dec.{eqb};
@@ -7,7 +7,7 @@ ghost use Rattle.word.specs.Choice.{both};
 ghost use Rattle.word.specs.Field.{field};
 ghost use Rattle.manual.specs.A8.{isAmong, returning, oneWord, fewerThanTwo, otherPageOf};
 ghost use Rattle.manual.specs.Reads.{isSet};
-ghost use Rattle.rows.specs.Titles.{titleAt, Numbered};
+ghost use Rattle.tables.specs.Titles.{titleAt, Numbered};
 
 const SUB_IMMEDIATE: u16 = 44;
 

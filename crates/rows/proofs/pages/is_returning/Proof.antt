@@ -1,6 +1,6 @@
 -- `rows::pages::is_returning` meets its contract. Assumes nothing.
 use borrow.Author.Needs.{needs}
-use Rattle.rows.specs.Titles.{titleAt}
+use Rattle.tables.specs.Titles.{titleAt}
 use Rattle.rows.proofs.Paging.{returning-is}
 use Rattle.rows.proofs.pages.is_returning.Statement.{statement}
 use Rattle.rows.proofs.pages.is_returning.Tie as tie

@@ -2,7 +2,7 @@
 use borrow.Author.Needs.{needs}
 use native.Mathlib.Omega.{arith}
 use Rattle.rows.proofs.Paging.{to-push-one, str-stays, to-pop-one, ldr-stays, to-ldm, pop-stays, to-stmdb, push-stays, others-stay}
-use Rattle.rows.specs.Titles.{titleAt}
+use Rattle.tables.specs.Titles.{titleAt}
 use Rattle.rows.proofs.pages.other_page.Statement.{statement}
 use Rattle.rows.proofs.pages.other_page.Tie as tie
 

@@ -1,0 +1,94 @@
+-- `tables::bit_fields` meets its contract. Assumes nothing.
+use mathlib.Core.Path.{_≡_}
+use mathlib.Core.Bool.{Bool, true}
+use mathlib.Core.List.{List, [], _∷_}
+use Prim.Native.Nat.{ℕ, _+_, _*_, _/_, _%_, _^_}
+use native.Mathlib.Omega.{arith}
+use borrow.Author.Needs.{needs}
+use borrow.Author.Tests.{eqb-true, eq-eqb}
+use lib.Dec.{eqb}
+use Rattle.word.specs.Field.{field, small}
+use Rattle.manual.specs.A5 as A5
+use Rattle.tables.specs.Titles.{numberOf}
+use Rattle.tables.proofs.Place.{Column, bits, is, Same, then, looked-where}
+use Rattle.tables.proofs.Parts.{media-op1}
+use Rattle.tables.proofs.bit_fields.Statement.{statement}
+use Rattle.tables.proofs.bit_fields.Tie as tie
+
+column-requires : tie.Need-column-requires
+column-requires c κs = search needs
+
+mul-place : tie.Need-mul-place
+mul-place c = search needs
+
+column-requires-2 : tie.Need-column-requires-2
+column-requires-2 c κs = search needs
+
+add-place : tie.Need-add-place
+add-place c = search needs
+
+mul-place-2 : tie.Need-mul-place-2
+mul-place-2 c = search needs
+
+is-requires : tie.Need-is-requires
+is-requires c κs = search needs
+
+add-place-2 : tie.Need-add-place-2
+add-place-2 c = search needs
+
+mul-place-3 : tie.Need-mul-place-3
+mul-place-3 c = search needs
+
+is-requires-2 : tie.Need-is-requires-2
+is-requires-2 c κs = search needs
+
+add-place-3 : tie.Need-add-place-3
+add-place-3 c = search needs
+
+cast-title : tie.Need-cast-title
+cast-title c = search needs
+
+array-read-title : tie.Need-array-read-title
+array-read-title c = search needs
+
+title-requires : tie.Need-title-requires
+title-requires c κs = search needs
+
+abbrev columns : List Column
+columns = bits 20 3 ∷ bits 5 3 ∷ is 12 4 15 ∷ is 0 4 15 ∷ []
+
+abbrev asked : ℕ → Bool
+asked w = eqb (field w 23 2) 3
+
+upper-16 : (w : ℕ) → (24 + field w 20 3) / 16 % 2 ≡ 1
+upper-16 w = omega (arith, small w 20 3)
+
+upper-8 : (w : ℕ) → (24 + field w 20 3) / 8 % 2 ≡ 1
+upper-8 w = omega (arith, small w 20 3)
+
+depends : (w w' : ℕ) → asked w ≡ true → asked w' ≡ true → Same columns w w' → A5.media w ≡ A5.media w'
+unfolding A5.media
+depends w w' g g' (a, (b, (d, (e, end)))) = simp (media-op1, eqb-true (field w 23 2) 3 g, eqb-true (field w' 23 2) 3 g', a, b, d, e, upper-16 w', upper-8 w')
+
+returns : tie.Need-returns
+unfolding field numberOf A5.media
+returns c = looked-where A5.media asked (3 * 2 ^ 23) columns 210 depends tt (c .before .before .before .before .before .args .w) (eq-eqb _ _ (c .before .before .before .before .before .pre)) (then 2 (then 2 (then 8 (c .before .before .before .before .column .ensures .0) (c .before .before .before .column2 .ensures .0)) (c .before .before .is .ensures .0)) (c .before .is2 .ensures .0)) (c .title .ensures)
+
+pub bit-fields-spec : {M : Type 1} → statement M
+bit-fields-spec =
+    tie.close
+    (tie.spec
+    column-requires
+    mul-place
+    column-requires-2
+    add-place
+    mul-place-2
+    is-requires
+    add-place-2
+    mul-place-3
+    is-requires-2
+    add-place-3
+    cast-title
+    array-read-title
+    title-requires
+    returns)

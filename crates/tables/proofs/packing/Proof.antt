@@ -1,0 +1,68 @@
+-- `tables::packing` meets its contract. Assumes nothing.
+use mathlib.Core.Path.{_≡_}
+use mathlib.Core.List.{List, [], _∷_}
+use Prim.Native.Nat.{ℕ}
+use borrow.Author.Needs.{needs}
+use Rattle.word.specs.Field.{field}
+use Rattle.manual.specs.A5 as A5
+use Rattle.tables.specs.Titles.{numberOf}
+use Rattle.tables.proofs.Place.{Column, bits, is, Same, then, looked}
+use Rattle.tables.proofs.packing.Statement.{statement}
+use Rattle.tables.proofs.packing.Tie as tie
+
+column-requires : tie.Need-column-requires
+column-requires c κs = search needs
+
+mul-place : tie.Need-mul-place
+mul-place c = search needs
+
+column-requires-2 : tie.Need-column-requires-2
+column-requires-2 c κs = search needs
+
+add-place : tie.Need-add-place
+add-place c = search needs
+
+mul-place-2 : tie.Need-mul-place-2
+mul-place-2 c = search needs
+
+is-requires : tie.Need-is-requires
+is-requires c κs = search needs
+
+add-place-2 : tie.Need-add-place-2
+add-place-2 c = search needs
+
+cast-title : tie.Need-cast-title
+cast-title c = search needs
+
+array-read-title : tie.Need-array-read-title
+array-read-title c = search needs
+
+title-requires : tie.Need-title-requires
+title-requires c κs = search needs
+
+abbrev columns : List Column
+columns = bits 20 3 ∷ bits 5 3 ∷ is 16 4 15 ∷ []
+
+depends : (w w' : ℕ) → Same columns w w' → A5.packing w ≡ A5.packing w'
+unfolding A5.packing
+depends w w' (a, (b, (d, end))) = simp (a, b, d)
+
+returns : tie.Need-returns
+unfolding field numberOf A5.packing
+returns c = looked A5.packing columns 177 depends tt (c .before .before .before .before .args .w) (then 2 (then 8 (c .before .before .before .column .ensures .0) (c .before .before .column2 .ensures .0)) (c .before .is .ensures .0)) (c .title .ensures)
+
+pub packing-spec : {M : Type 1} → statement M
+packing-spec =
+    tie.close
+    (tie.spec
+    column-requires
+    mul-place
+    column-requires-2
+    add-place
+    mul-place-2
+    is-requires
+    add-place-2
+    cast-title
+    array-read-title
+    title-requires
+    returns)

@@ -1,0 +1,79 @@
+-- `tables::preload` meets its contract. Assumes nothing.
+use mathlib.Core.Path.{_≡_, refl}
+use mathlib.Core.Bool.{Bool, true}
+use mathlib.Core.List.{List, [], _∷_}
+use Prim.Native.Nat.{ℕ}
+use Prim.Native.String.{String}
+use borrow.Author.Needs.{needs}
+use lib.Dec.{eqb}
+use Rattle.word.specs.Choice.{pick, by-test}
+use Rattle.word.specs.Field.{field}
+use Rattle.manual.specs.A5 as A5
+use Rattle.tables.specs.Titles.{numberOf}
+use Rattle.tables.proofs.Place.{Column, bits, is, Same, then, looked-where}
+use Rattle.tables.proofs.Parts.{op2-4, either, neither, kept, pick-same}
+use Rattle.tables.proofs.preload.Statement.{statement}
+use Rattle.tables.proofs.preload.Tie as tie
+
+column-requires : tie.Need-column-requires
+column-requires c κs = search needs
+
+mul-place : tie.Need-mul-place
+mul-place c = search needs
+
+column-requires-2 : tie.Need-column-requires-2
+column-requires-2 c κs = search needs
+
+add-place : tie.Need-add-place
+add-place c = search needs
+
+mul-place-2 : tie.Need-mul-place-2
+mul-place-2 c = search needs
+
+is-requires : tie.Need-is-requires
+is-requires c κs = search needs
+
+add-place-2 : tie.Need-add-place-2
+add-place-2 c = search needs
+
+cast-title : tie.Need-cast-title
+cast-title c = search needs
+
+array-read-title : tie.Need-array-read-title
+array-read-title c = search needs
+
+title-requires : tie.Need-title-requires
+title-requires c κs = search needs
+
+abbrev columns : List Column
+columns = bits 20 7 ∷ bits 4 1 ∷ is 16 4 15 ∷ []
+
+abbrev asked : ℕ → Bool
+asked w = true
+
+abbrev row : ℕ → String
+row w = pick (either (eqb (field w 20 7) 16) (eqb (field w 20 7) 87)) "UNDEFINED" (A5.hintsAndSimd w)
+
+depends : (w w' : ℕ) → asked w ≡ true → asked w' ≡ true → Same columns w w' → row w ≡ row w'
+unfolding A5.hintsAndSimd
+depends w w' g g' (a, (b, (d, end))) = by-test (eqb (field w' 20 7) 16) (λ e. simp (a, e)) (λ e. by-test (eqb (field w' 20 7) 87) (λ f. simp (a, e, f)) (λ f. simp (a, op2-4, b, d, e, f, pick-same)))
+
+returns : tie.Need-returns
+unfolding field numberOf A5.hintsAndSimd
+returns c = kept (either (eqb (field (c .before .before .before .before .args .w) 20 7) 16) (eqb (field (c .before .before .before .before .args .w) 20 7) 87)) (neither (c .before .before .before .before .pre .0) (c .before .before .before .before .pre .1)) (looked-where row asked (0) columns 233 depends tt (c .before .before .before .before .args .w) (refl) (then 2 (then 2 (c .before .before .before .column .ensures .0) (c .before .before .column2 .ensures .0)) (c .before .is .ensures .0)) (c .title .ensures))
+
+pub preload-spec : {M : Type 1} → statement M
+preload-spec =
+    tie.close
+    (tie.spec
+    column-requires
+    mul-place
+    column-requires-2
+    add-place
+    mul-place-2
+    is-requires
+    add-place-2
+    cast-title
+    array-read-title
+    title-requires
+    returns)
