@@ -1,11 +1,11 @@
 //! The word that an instruction value leads to, put together from its name and operands, group by group.
-use crate::word_dp::dp_word;
-use crate::word_dp::msr_immediate_word;
-use crate::word_dp::wide_word;
-use crate::word_extra::extra_word;
-use crate::word_ldst::ldst_word;
-use crate::word_media::media_word;
-use crate::word_misc::misc_word;
+use dp_words::dp_word;
+use dp_words::msr_immediate_word;
+use dp_words::wide_word;
+use group_words::extra::extra_word;
+use group_words::ldst::ldst_word;
+use group_words::media::media_word;
+use group_words::misc::misc_word;
 use insn::Insn;
 use insn::name;
 use parts::read::ADDRESS;
@@ -23,13 +23,6 @@ ghost use Rattle.insn.specs.Name.{BLX};
 ghost use Rattle.home.specs.Word as W;
 ghost use Rattle.home.specs.WordTransfer.{blxWord, branchWord};
 ghost use Rattle.words.specs.Candidate.{candidate};
-
-mod word_dp;
-mod word_extra;
-mod word_ldst;
-mod word_media;
-mod word_misc;
-mod word_multiply;
 
 /// Msr has one form in two groups.
 fn status_word(i: Insn) -> u32

@@ -4,7 +4,7 @@ use mathlib.Core.Path.{sym, _∙_}
 use native.Mathlib.Nat.{le-refl}
 use native.Mathlib.Omega.{arith}
 use Rattle.home.proofs.Ways.{between, named-address, named-dp, named-status, named-extra, named-wide, named-ldst, named-media, named-block, named-preload}
-use Rattle.words.proofs.Chosen.{by}
+use Rattle.dp_words.proofs.Chosen.{by}
 use Rattle.words.proofs.word_of.Statement.{statement}
 use Rattle.words.proofs.word_of.Tie as tie
 

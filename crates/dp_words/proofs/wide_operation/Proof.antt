@@ -1,0 +1,13 @@
+-- `dp_words::wide_operation` meets its contract. Assumes nothing.
+use borrow.Author.Tests.{ne-eqb}
+use Rattle.dp_words.proofs.wide_operation.Statement.{statement}
+use Rattle.dp_words.proofs.wide_operation.Tie as tie
+
+returns : tie.Need-returns
+returns c = simp (c .if1 .taken)
+
+returns-2 : tie.Need-returns-2
+returns-2 c = simp (ne-eqb _ _ (c .if1 .left))
+
+pub wide-operation-spec : {M : Type 1} → statement M
+wide-operation-spec = tie.close (tie.spec returns returns-2)

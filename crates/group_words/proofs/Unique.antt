@@ -1,0 +1,20 @@
+-- No second result fits a contract. Each line is about the contract itself, as the check reads it from the source.
+-- Assumes nothing.
+use mathlib.Core.Path.{_∙_, sym}
+use Rattle.word.specs.Only.{Only}
+use Rattle.group_words.proofs.extra.extra_word.Reads as extra-word
+use Rattle.group_words.proofs.ldst.ldst_word.Reads as ldst-word
+use Rattle.group_words.proofs.media.media_word.Reads as media-word
+use Rattle.group_words.proofs.misc.misc_word.Reads as misc-word
+
+pub extra-word-only : Only extra-word.Post
+extra-word-only κs a r r′ s s′ p q = p ∙ sym q
+
+pub ldst-word-only : Only ldst-word.Post
+ldst-word-only κs a r r′ s s′ p q = p ∙ sym q
+
+pub media-word-only : Only media-word.Post
+media-word-only κs a r r′ s s′ p q = p ∙ sym q
+
+pub misc-word-only : Only misc-word.Post
+misc-word-only κs a r r′ s s′ p q = p ∙ sym q
