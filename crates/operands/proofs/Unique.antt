@@ -4,34 +4,6 @@ use mathlib.Core.Path.{_≡_}
 use denote.Ref.{now}
 use Rattle.text.proofs.Unique.{one-put}
 use Rattle.operands.proofs.put_places.Reads as put-places
-use Rattle.operands.proofs.names.put_root.Reads as put-root
-use Rattle.operands.proofs.names.put_suffix.Reads as put-suffix
-use Rattle.operands.proofs.names.put_mask.Reads as put-mask
-use Rattle.operands.proofs.names.put_shift.Reads as put-shift
-use Rattle.operands.proofs.names.put_source.Reads as put-source
-use Rattle.operands.proofs.names.put_register.Reads as put-register
-use Rattle.operands.proofs.names.put_flow.Reads as put-flow
 
 pub put-places-only : (κs : _) (a : _) (r r′ : _) (s s′ : _) → put-places.Post κs a r s → put-places.Post κs a r′ s′ → (r ≡ r′) × (now (s .0) ≡ now (s′ .0))
 put-places-only κs a r r′ s s′ p q = one-put p q
-
-pub put-root-only : (κs : _) (a : _) (r r′ : _) (s s′ : _) → put-root.Post κs a r s → put-root.Post κs a r′ s′ → (r ≡ r′) × (now (s .0) ≡ now (s′ .0))
-put-root-only κs a r r′ s s′ p q = one-put p q
-
-pub put-suffix-only : (κs : _) (a : _) (r r′ : _) (s s′ : _) → put-suffix.Post κs a r s → put-suffix.Post κs a r′ s′ → (r ≡ r′) × (now (s .0) ≡ now (s′ .0))
-put-suffix-only κs a r r′ s s′ p q = one-put p q
-
-pub put-mask-only : (κs : _) (a : _) (r r′ : _) (s s′ : _) → put-mask.Post κs a r s → put-mask.Post κs a r′ s′ → (r ≡ r′) × (now (s .0) ≡ now (s′ .0))
-put-mask-only κs a r r′ s s′ p q = one-put p q
-
-pub put-shift-only : (κs : _) (a : _) (r r′ : _) (s s′ : _) → put-shift.Post κs a r s → put-shift.Post κs a r′ s′ → (r ≡ r′) × (now (s .0) ≡ now (s′ .0))
-put-shift-only κs a r r′ s s′ p q = one-put p q
-
-pub put-source-only : (κs : _) (a : _) (r r′ : _) (s s′ : _) → put-source.Post κs a r s → put-source.Post κs a r′ s′ → (r ≡ r′) × (now (s .0) ≡ now (s′ .0))
-put-source-only κs a r r′ s s′ p q = one-put p q
-
-pub put-register-only : (κs : _) (a : _) (r r′ : _) (s s′ : _) → put-register.Post κs a r s → put-register.Post κs a r′ s′ → (r ≡ r′) × (now (s .0) ≡ now (s′ .0))
-put-register-only κs a r r′ s s′ p q = one-put p q
-
-pub put-flow-only : (κs : _) (a : _) (r r′ : _) (s s′ : _) → put-flow.Post κs a r s → put-flow.Post κs a r′ s′ → (r ≡ r′) × (now (s .0) ≡ now (s′ .0))
-put-flow-only κs a r r′ s s′ p q = one-put p q

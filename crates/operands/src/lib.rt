@@ -1,14 +1,14 @@
-//! The writers of an instruction's names and operands. Each writes from place `at` on and gives the place after its text.
-use crate::names::put_mask;
-use crate::names::put_register;
-use crate::names::put_shift;
-use crate::names::put_source;
+//! The writers of an instruction's operands. Each writes from place `at` on and gives the place after its text.
 use insn::AddrMode;
 use insn::Index;
 use insn::Mem;
 use insn::Operand;
 use insn::PLACES;
 use insn::Place;
+use names::put_mask;
+use names::put_register;
+use names::put_shift;
+use names::put_source;
 use text::put;
 use text::put_byte;
 use text::put_decimal;
@@ -18,8 +18,6 @@ ghost use mathlib.Core.List.{_++_};
 ghost use Rattle.text.specs.Text.{bytes, decimalOf};
 ghost use Rattle.text.specs.Put.{Room, Put};
 ghost use Rattle.spelling.specs.Line.{indexOf, displacementOf, modeOf, memoryOf, operandOf, placeOf, placesOf};
-
-pub mod names;
 
 fn put_index(out: &mut [u8], at: usize, index: Index) -> usize
     requires { ⌜ Room (now out) at (indexOf index) ⌝ }

@@ -1,4 +1,4 @@
--- `operands::names::roots_with` meets its contract: each row has the roots of its numbers, and beyond the last row there are none. Assumes nothing.
+-- `names::roots_with` meets its contract: each row has the roots of its numbers, and beyond the last row there are none. Assumes nothing.
 use mathlib.Core.Path.{ap, sym, _∙_}
 use mathlib.Core.List.{[]}
 use Prim.Native.Nat.{ℕ, _≤_, _/_, _%_}
@@ -6,10 +6,10 @@ use native.Mathlib.Omega.{arith}
 use lib.ListN.{List·getD-eq-default}
 use Rattle.text.specs.Text.{bytes}
 use Rattle.spelling.specs.Names.{roots}
-use Rattle.operands.proofs.Table.{spelt}
-use Rattle.operands.proofs.Rows.{blanks, blank, of-row, past}
-use Rattle.operands.proofs.names.roots_with.Statement.{statement}
-use Rattle.operands.proofs.names.roots_with.Tie as tie
+use Rattle.names.proofs.Table.{spelt}
+use Rattle.names.proofs.Rows.{blanks, blank, of-row, past}
+use Rattle.names.proofs.roots_with.Statement.{statement}
+use Rattle.names.proofs.roots_with.Tie as tie
 
 returns : tie.Need-returns
 returns c = of-row 0 (c .before .args .name) tt (c .match .keys1)

@@ -1,11 +1,11 @@
--- `operands::names::put_shift` meets its contract: the table has the names. Assumes nothing.
+-- `names::put_shift` meets its contract: the table has the names. Assumes nothing.
 use borrow.Author.Needs.{needs}
 use native.Mathlib.Omega.{arith}
 use Rattle.spelling.specs.Names.{shifts}
 use Rattle.spelling.specs.Line.{shiftOf}
-use Rattle.operands.proofs.Table.{spelt}
-use Rattle.operands.proofs.names.put_shift.Statement.{statement}
-use Rattle.operands.proofs.names.put_shift.Tie as tie
+use Rattle.names.proofs.Table.{spelt}
+use Rattle.names.proofs.put_shift.Statement.{statement}
+use Rattle.names.proofs.put_shift.Tie as tie
 
 slice-aggregate-put-entry : tie.Need-slice-aggregate-put-entry
 slice-aggregate-put-entry c = search needs

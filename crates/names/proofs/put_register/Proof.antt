@@ -1,11 +1,11 @@
--- `operands::names::put_register` meets its contract: the table has the names. Assumes nothing.
+-- `names::put_register` meets its contract: the table has the names. Assumes nothing.
 use borrow.Author.Needs.{needs}
 use native.Mathlib.Omega.{arith}
 use Rattle.spelling.specs.Names.{registers}
 use Rattle.spelling.specs.Line.{registerOf}
-use Rattle.operands.proofs.Table.{spelt}
-use Rattle.operands.proofs.names.put_register.Statement.{statement}
-use Rattle.operands.proofs.names.put_register.Tie as tie
+use Rattle.names.proofs.Table.{spelt}
+use Rattle.names.proofs.put_register.Statement.{statement}
+use Rattle.names.proofs.put_register.Tie as tie
 
 slice-aggregate-put-entry : tie.Need-slice-aggregate-put-entry
 slice-aggregate-put-entry c = search needs

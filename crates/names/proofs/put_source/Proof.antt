@@ -1,10 +1,10 @@
--- `operands::names::put_source` meets its contract: the table has the names. Assumes nothing.
+-- `names::put_source` meets its contract: the table has the names. Assumes nothing.
 use borrow.Author.Needs.{needs}
 use native.Mathlib.Omega.{arith}
 use Rattle.spelling.specs.Names.{sources}
-use Rattle.operands.proofs.Table.{spelt}
-use Rattle.operands.proofs.names.put_source.Statement.{statement}
-use Rattle.operands.proofs.names.put_source.Tie as tie
+use Rattle.names.proofs.Table.{spelt}
+use Rattle.names.proofs.put_source.Statement.{statement}
+use Rattle.names.proofs.put_source.Tie as tie
 
 slice-aggregate-put-entry : tie.Need-slice-aggregate-put-entry
 slice-aggregate-put-entry c = search needs

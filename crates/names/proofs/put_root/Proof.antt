@@ -1,8 +1,8 @@
--- `operands::names::put_root` meets its contract: the part has the name. Assumes nothing.
+-- `names::put_root` meets its contract: the part has the name. Assumes nothing.
 use borrow.Author.Needs.{needs}
 use native.Mathlib.Omega.{arith}
-use Rattle.operands.proofs.names.put_root.Statement.{statement}
-use Rattle.operands.proofs.names.put_root.Tie as tie
+use Rattle.names.proofs.put_root.Statement.{statement}
+use Rattle.names.proofs.put_root.Tie as tie
 
 roots-with-requires : tie.Need-roots-with-requires
 roots-with-requires c κs = search needs

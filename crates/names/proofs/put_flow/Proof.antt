@@ -1,11 +1,11 @@
--- `operands::names::put_flow` meets its contract: the table has the names. Assumes nothing.
+-- `names::put_flow` meets its contract: the table has the names. Assumes nothing.
 use borrow.Author.Needs.{needs}
 use native.Mathlib.Omega.{arith}
 use Rattle.spelling.specs.Names.{flows}
 use Rattle.spelling.specs.Line.{flowOf}
-use Rattle.operands.proofs.Table.{spelt}
-use Rattle.operands.proofs.names.put_flow.Statement.{statement}
-use Rattle.operands.proofs.names.put_flow.Tie as tie
+use Rattle.names.proofs.Table.{spelt}
+use Rattle.names.proofs.put_flow.Statement.{statement}
+use Rattle.names.proofs.put_flow.Tie as tie
 
 slice-aggregate-put-entry : tie.Need-slice-aggregate-put-entry
 slice-aggregate-put-entry c = search needs

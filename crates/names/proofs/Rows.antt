@@ -11,7 +11,7 @@ use lib.Seq.{getD-take, getD-drop}
 use Rattle.text.specs.Text.{bytes}
 use Rattle.text.specs.Entry.{entryOf}
 use Rattle.spelling.specs.Names.{roots, entry}
-use Rattle.operands.proofs.Table.{padded, allPlain, spelt}
+use Rattle.names.proofs.Table.{padded, allPlain, spelt}
 
 -- so many empty texts
 abbrev pub blanks : ℕ → List String
