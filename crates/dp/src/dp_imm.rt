@@ -18,6 +18,9 @@ use word::bits;
 use word::bits_then;
 ghost use mathlib.Core.Path.{_≡_};
 ghost use Prim.Native.Nat.{_<_};
+ghost use Rattle.insn.specs.Answer.{empty, filled};
+ghost use Rattle.arm.specs.Row.{condOf, regOf};
+ghost use Rattle.dp.specs.Names.{dpName};
 ghost use Rattle.dp.specs.DpImm.{dpImmOf, wideOf, msrHintOf, hintSlot, hintOf, hintNamed, msrOf, operationOf, valued, toPc};
 
 /// Table A5-6, plus `movw`, `movt` and the hints that share its slots.
@@ -98,36 +101,28 @@ fn operation(w: u32, addr: u64) -> Decoded
     let compare = bits(w, 24, 23);
     let op = bits(w, 24, 21);
     if compare == 0b10 {
-        return value(
-            at(w, addr, dp_name(w), Flow::Next).with(0, op_at(w, RN)),
-            1,
-            w,
-            false,
-        );
+        return value(lead(w, addr, Flow::Next, RN), 1, w, false);
     }
     match op {
         // A `mov` to the pc reads better as a bit pattern than as a negative number, which is the one place LLVM prints
         // it unsigned.
-        0b1101 => value(
-            at(w, addr, dp_name(w), pc_write(w)).with(0, op_at(w, RD)),
-            1,
-            w,
-            is_to_pc(w),
-        ),
-        0b1111 => value(
-            at(w, addr, dp_name(w), pc_write(w)).with(0, op_at(w, RD)),
-            1,
-            w,
-            false,
-        ),
+        0b1101 => value(lead(w, addr, pc_write(w), RD), 1, w, is_to_pc(w)),
+        0b1111 => value(lead(w, addr, pc_write(w), RD), 1, w, false),
         _ => value(
-            at(w, addr, dp_name(w), pc_write(w)).with(0, op_at(w, RD))
-                .with(1, op_at(w, RN)),
+            lead(w, addr, pc_write(w), RD).with(1, op_at(w, RN)),
             2,
             w,
             false,
         ),
     }
+}
+
+/// An operation before its immediate: its name, and a register at the first place.
+fn lead(w: u32, addr: u64, flow: Flow, lo: u32) -> Insn
+    requires { ⌜ lo < 29 ⌝ }
+    ensures { λ r. ⌜ r ≡ filled (empty addr (dpName w) (condOf w) flow) 0 (regOf w lo) ⌝ }
+{
+    at(w, addr, dp_name(w), flow).with(0, op_at(w, lo))
 }
 
 fn is_to_pc(w: u32) -> bool

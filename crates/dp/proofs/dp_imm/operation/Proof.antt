@@ -13,17 +13,8 @@ bits-requires c κs = search needs
 bits-requires-2 : tie.Need-bits-requires-2
 bits-requires-2 c κs = search needs
 
-dp-name-requires : tie.Need-dp-name-requires
-dp-name-requires c κs = search needs
-
-at-requires : tie.Need-at-requires
-at-requires c κs = search needs
-
-op-at-requires : tie.Need-op-at-requires
-op-at-requires c κs = search needs
-
-with-requires : tie.Need-with-requires
-with-requires c κs = search needs
+lead-requires : tie.Need-lead-requires
+lead-requires c κs = search needs
 
 value-requires : tie.Need-value-requires
 value-requires c κs = search needs
@@ -32,30 +23,18 @@ returns : tie.Need-returns
 returns c =
     simp (
       c .value .ensures,
-      c .before .with .ensures,
-      c .before .before .op-at .ensures,
-      c .before .before .before .at .ensures,
-      c .before .before .before .before .dp-name .ensures,
-      c .before .before .before .before .before .if1 .taken,
-      ← (c .before .before .before .before .before .before .bits2 .ensures),
-      ← (c .before .before .before .before .before .before .before .bits .ensures),
+      c .before .lead .ensures,
+      c .before .before .if1 .taken,
+      ← (c .before .before .before .bits2 .ensures),
+      ← (c .before .before .before .before .bits .ensures),
     )
-    (by-test (leastOf (field (c .before .before .before .before .before .before .before .before .args .w) 0 12)) (λ e. simp e) (λ e. simp e))
-
-dp-name-requires-2 : tie.Need-dp-name-requires-2
-dp-name-requires-2 c κs = search needs
+    (by-test (leastOf (field (c .before .before .before .before .before .args .w) 0 12)) (λ e. simp e) (λ e. simp e))
 
 pc-write-requires : tie.Need-pc-write-requires
 pc-write-requires c κs = search needs
 
-at-requires-2 : tie.Need-at-requires-2
-at-requires-2 c κs = search needs
-
-op-at-requires-2 : tie.Need-op-at-requires-2
-op-at-requires-2 c κs = search needs
-
-with-requires-2 : tie.Need-with-requires-2
-with-requires-2 c κs = search needs
+lead-requires-2 : tie.Need-lead-requires-2
+lead-requires-2 c κs = search needs
 
 is-to-pc-requires : tie.Need-is-to-pc-requires
 is-to-pc-requires c κs = search needs
@@ -63,44 +42,26 @@ is-to-pc-requires c κs = search needs
 value-requires-2 : tie.Need-value-requires-2
 value-requires-2 c κs = search needs
 
-dp-name-requires-3 : tie.Need-dp-name-requires-3
-dp-name-requires-3 c κs = search needs
-
 pc-write-requires-2 : tie.Need-pc-write-requires-2
 pc-write-requires-2 c κs = search needs
 
-at-requires-3 : tie.Need-at-requires-3
-at-requires-3 c κs = search needs
-
-op-at-requires-3 : tie.Need-op-at-requires-3
-op-at-requires-3 c κs = search needs
-
-with-requires-3 : tie.Need-with-requires-3
-with-requires-3 c κs = search needs
+lead-requires-3 : tie.Need-lead-requires-3
+lead-requires-3 c κs = search needs
 
 value-requires-3 : tie.Need-value-requires-3
 value-requires-3 c κs = search needs
 
-dp-name-requires-4 : tie.Need-dp-name-requires-4
-dp-name-requires-4 c κs = search needs
-
 pc-write-requires-3 : tie.Need-pc-write-requires-3
 pc-write-requires-3 c κs = search needs
 
-at-requires-4 : tie.Need-at-requires-4
-at-requires-4 c κs = search needs
+lead-requires-4 : tie.Need-lead-requires-4
+lead-requires-4 c κs = search needs
 
-op-at-requires-4 : tie.Need-op-at-requires-4
-op-at-requires-4 c κs = search needs
+op-at-requires : tie.Need-op-at-requires
+op-at-requires c κs = search needs
 
-with-requires-4 : tie.Need-with-requires-4
-with-requires-4 c κs = search needs
-
-op-at-requires-5 : tie.Need-op-at-requires-5
-op-at-requires-5 c κs = search needs
-
-with-requires-5 : tie.Need-with-requires-5
-with-requires-5 c κs = search needs
+with-requires : tie.Need-with-requires
+with-requires c κs = search needs
 
 value-requires-4 : tie.Need-value-requires-4
 value-requires-4 c κs = search needs
@@ -110,52 +71,43 @@ returns-2 c =
     simp (
       c .value2 .ensures,
       ← (c .before .is-to-pc .ensures),
-      c .before .before .with2 .ensures,
-      c .before .before .before .op-at2 .ensures,
-      c .before .before .before .before .at2 .ensures,
-      c .before .before .before .before .before .pc-write .ensures,
-      c .before .before .before .before .before .before .dp-name2 .ensures,
-      c .before .before .before .before .before .before .before .match .keys1,
-      ne-eqb _ _ (c .before .before .before .before .before .before .before .before .if1 .left),
-      ← (c .before .before .before .before .before .before .before .before .before .bits2 .ensures),
-      ← (c .before .before .before .before .before .before .before .before .before .before .bits .ensures),
+      c .before .before .lead2 .ensures,
+      c .before .before .before .pc-write .ensures,
+      c .before .before .before .before .match .keys1,
+      ne-eqb _ _ (c .before .before .before .before .before .if1 .left),
+      ← (c .before .before .before .before .before .before .bits2 .ensures),
+      ← (c .before .before .before .before .before .before .before .bits .ensures),
     )
-    (by-test (leastOf (field (c .before .before .before .before .before .before .before .before .before .before .before .args .w) 0 12)) (λ e. simp e) (λ e. simp e))
+    (by-test (leastOf (field (c .before .before .before .before .before .before .before .before .args .w) 0 12)) (λ e. simp e) (λ e. simp e))
 
 returns-3 : tie.Need-returns-3
 returns-3 c =
     simp (
       c .value3 .ensures,
-      c .before .with3 .ensures,
-      c .before .before .op-at3 .ensures,
-      c .before .before .before .at3 .ensures,
-      c .before .before .before .before .pc-write2 .ensures,
-      c .before .before .before .before .before .dp-name3 .ensures,
-      c .before .before .before .before .before .before .match .keys2,
-      ne-eqb _ _ (c .before .before .before .before .before .before .before .if1 .left),
-      ← (c .before .before .before .before .before .before .before .before .bits2 .ensures),
-      ← (c .before .before .before .before .before .before .before .before .before .bits .ensures),
+      c .before .lead3 .ensures,
+      c .before .before .pc-write2 .ensures,
+      c .before .before .before .match .keys2,
+      ne-eqb _ _ (c .before .before .before .before .if1 .left),
+      ← (c .before .before .before .before .before .bits2 .ensures),
+      ← (c .before .before .before .before .before .before .bits .ensures),
     )
-    (by-test (leastOf (field (c .before .before .before .before .before .before .before .before .before .before .args .w) 0 12)) (λ e. simp e) (λ e. simp e))
+    (by-test (leastOf (field (c .before .before .before .before .before .before .before .args .w) 0 12)) (λ e. simp e) (λ e. simp e))
 
 returns-4 : tie.Need-returns-4
 returns-4 c =
     simp (
       c .value4 .ensures,
-      c .before .with5 .ensures,
-      c .before .before .op-at5 .ensures,
-      c .before .before .before .with4 .ensures,
-      c .before .before .before .before .op-at4 .ensures,
-      c .before .before .before .before .before .at4 .ensures,
-      c .before .before .before .before .before .before .pc-write3 .ensures,
-      c .before .before .before .before .before .before .before .dp-name4 .ensures,
-      ne-eqb _ _ (c .before .before .before .before .before .before .before .before .match .rest .1),
-      ne-eqb _ _ (c .before .before .before .before .before .before .before .before .match .rest .0 .1),
-      ne-eqb _ _ (c .before .before .before .before .before .before .before .before .before .if1 .left),
-      ← (c .before .before .before .before .before .before .before .before .before .before .bits2 .ensures),
-      ← (c .before .before .before .before .before .before .before .before .before .before .before .bits .ensures),
+      c .before .with .ensures,
+      c .before .before .op-at .ensures,
+      c .before .before .before .lead4 .ensures,
+      c .before .before .before .before .pc-write3 .ensures,
+      ne-eqb _ _ (c .before .before .before .before .before .match .rest .1),
+      ne-eqb _ _ (c .before .before .before .before .before .match .rest .0 .1),
+      ne-eqb _ _ (c .before .before .before .before .before .before .if1 .left),
+      ← (c .before .before .before .before .before .before .before .bits2 .ensures),
+      ← (c .before .before .before .before .before .before .before .before .bits .ensures),
     )
-    (by-test (leastOf (field (c .before .before .before .before .before .before .before .before .before .before .before .before .args .w) 0 12)) (λ e. simp e) (λ e. simp e))
+    (by-test (leastOf (field (c .before .before .before .before .before .before .before .before .before .args .w) 0 12)) (λ e. simp e) (λ e. simp e))
 
 pub operation-spec : {M : Type 1} → statement M
 operation-spec =
@@ -163,32 +115,20 @@ operation-spec =
     (tie.spec
     bits-requires
     bits-requires-2
-    dp-name-requires
-    at-requires
-    op-at-requires
-    with-requires
+    lead-requires
     value-requires
     returns
-    dp-name-requires-2
     pc-write-requires
-    at-requires-2
-    op-at-requires-2
-    with-requires-2
+    lead-requires-2
     is-to-pc-requires
     value-requires-2
-    dp-name-requires-3
     pc-write-requires-2
-    at-requires-3
-    op-at-requires-3
-    with-requires-3
+    lead-requires-3
     value-requires-3
-    dp-name-requires-4
     pc-write-requires-3
-    at-requires-4
-    op-at-requires-4
-    with-requires-4
-    op-at-requires-5
-    with-requires-5
+    lead-requires-4
+    op-at-requires
+    with-requires
     value-requires-4
     returns-2
     returns-3
