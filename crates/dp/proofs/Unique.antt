@@ -6,6 +6,7 @@ use Rattle.dp.proofs.dp_imm.is_hint.Reads as is-hint
 use Rattle.dp.proofs.dp_reg.dp_reg.Reads as dp-reg
 use Rattle.dp.proofs.names.dp_name.Reads as dp-name
 use Rattle.dp.proofs.names.shift_name.Reads as shift-name
+use Rattle.dp.proofs.names.lead.Reads as lead
 
 pub dp-imm-only : (κs : _) (a : _) (r r′ : _) (s s′ : _) → dp-imm.Post κs a r s → dp-imm.Post κs a r′ s′ → r ≡ r′
 dp-imm-only κs a r r′ s s′ p q = p ∙ sym q
@@ -21,3 +22,6 @@ dp-name-only κs a r r′ s s′ p q = p ∙ sym q
 
 pub shift-name-only : (κs : _) (a : _) (r r′ : _) (s s′ : _) → shift-name.Post κs a r s → shift-name.Post κs a r′ s′ → r ≡ r′
 shift-name-only κs a r r′ s s′ p q = p ∙ sym q
+
+pub lead-only : (κs : _) (a : _) (r r′ : _) (s s′ : _) → lead.Post κs a r s → lead.Post κs a r′ s′ → r ≡ r′
+lead-only κs a r r′ s s′ p q = p ∙ sym q

@@ -1,5 +1,5 @@
 //! Data processing with an immediate, and what shares its slots.
-use crate::names::dp_name;
+use crate::names::lead;
 use arm::NO_ROW;
 use arm::RD;
 use arm::RN;
@@ -18,9 +18,6 @@ use word::bits;
 use word::bits_then;
 ghost use mathlib.Core.Path.{_≡_};
 ghost use Prim.Native.Nat.{_<_};
-ghost use Rattle.insn.specs.Answer.{empty, filled};
-ghost use Rattle.arm.specs.Row.{condOf, regOf};
-ghost use Rattle.dp.specs.Names.{dpName};
 ghost use Rattle.dp.specs.DpImm.{dpImmOf, wideOf, msrHintOf, hintSlot, hintOf, hintNamed, msrOf, operationOf, valued, toPc};
 
 /// Table A5-6, plus `movw`, `movt` and the hints that share its slots.
@@ -115,14 +112,6 @@ fn operation(w: u32, addr: u64) -> Decoded
             false,
         ),
     }
-}
-
-/// An operation before its immediate: its name, and a register at the first place.
-fn lead(w: u32, addr: u64, flow: Flow, lo: u32) -> Insn
-    requires { ⌜ lo < 29 ⌝ }
-    ensures { λ r. ⌜ r ≡ filled (empty addr (dpName w) (condOf w) flow) 0 (regOf w lo) ⌝ }
-{
-    at(w, addr, dp_name(w), flow).with(0, op_at(w, lo))
 }
 
 fn is_to_pc(w: u32) -> bool

@@ -1,5 +1,5 @@
 //! Data processing with a register source.
-use crate::names::dp_name;
+use crate::names::lead;
 use crate::names::shift_name;
 use arm::RD;
 use arm::RM;
@@ -34,26 +34,13 @@ pub fn dp_reg(w: u32, addr: u64) -> Decoded
     let compare = bits(w, 24, 23);
     let op = bits(w, 24, 21);
     if compare == 0b10 {
-        return source(
-            at(w, addr, dp_name(w), pc_write(w)).with(0, op_at(w, RN)),
-            1,
-            w,
-        );
+        return source(lead(w, addr, pc_write(w), RN), 1, w);
     }
     match op {
         // A `mov` whose source is shifted is spelled as the shift.
         0b1101 => mov(w, addr),
-        0b1111 => source(
-            at(w, addr, dp_name(w), pc_write(w)).with(0, op_at(w, RD)),
-            1,
-            w,
-        ),
-        _ => source(
-            at(w, addr, dp_name(w), pc_write(w)).with(0, op_at(w, RD))
-                .with(1, op_at(w, RN)),
-            2,
-            w,
-        ),
+        0b1111 => source(lead(w, addr, pc_write(w), RD), 1, w),
+        _ => source(lead(w, addr, pc_write(w), RD).with(1, op_at(w, RN)), 2, w),
     }
 }
 

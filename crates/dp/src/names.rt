@@ -1,8 +1,15 @@
-//! The names of the data processing operations.
+//! The names of the data processing operations, and how they begin.
+use arm::at;
+use arm::op_at;
+use insn::Flow;
+use insn::Insn;
 use insn::name;
 use word::bit;
 use word::bits;
 ghost use mathlib.Core.Path.{_≡_};
+ghost use Prim.Native.Nat.{_<_};
+ghost use Rattle.insn.specs.Answer.{empty, filled};
+ghost use Rattle.arm.specs.Row.{condOf, regOf};
 ghost use Rattle.dp.specs.Names.{dpName, shiftName};
 
 const DP: [u16; 16] = [
@@ -63,4 +70,12 @@ pub fn shift_name(w: u32) -> u16
     let ty = bits(w, 6, 5) as usize;
     let s = bit(w, 20);
     if s == 0 { SHIFTS[ty] } else { SHIFTS_S[ty] }
+}
+
+/// An operation before its source: its name, and a register at the first place.
+pub fn lead(w: u32, addr: u64, flow: Flow, lo: u32) -> Insn
+    requires { ⌜ lo < 29 ⌝ }
+    ensures { λ r. ⌜ r ≡ filled (empty addr (dpName w) (condOf w) flow) 0 (regOf w lo) ⌝ }
+{
+    at(w, addr, dp_name(w), flow).with(0, op_at(w, lo))
 }

@@ -1,7 +1,7 @@
--- `dp::dp_imm::lead` meets its contract. Assumes nothing.
+-- `dp::names::lead` meets its contract. Assumes nothing.
 use borrow.Author.Needs.{needs}
-use Rattle.dp.proofs.dp_imm.lead.Statement.{statement}
-use Rattle.dp.proofs.dp_imm.lead.Tie as tie
+use Rattle.dp.proofs.names.lead.Statement.{statement}
+use Rattle.dp.proofs.names.lead.Tie as tie
 
 dp-name-requires : tie.Need-dp-name-requires
 dp-name-requires c κs = search needs
