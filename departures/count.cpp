@@ -26,7 +26,7 @@ static bool bit(uint32_t w, int n) { return field(w, n, 1); }
 static bool to_pc(uint32_t w) { return field(w, 12, 4) == 15; }
 static bool offset_mode(uint32_t w) { return bit(w, 24) && !bit(w, 21); }
 static bool left_index(uint32_t w) { return bit(w, 23) && field(w, 5, 2) == 0; }
-static bool preload_bits(uint32_t w) { return to_pc(w) && !bit(w, 4); }
+static bool literal_pldw(uint32_t w) { return field(w, 28, 4) == 15 && field(w, 24, 4) == 5 && field(w, 20, 3) == 1 && field(w, 16, 4) == 15 && to_pc(w); }
 
 struct Departure {
     const char *name;
@@ -76,10 +76,10 @@ static const std::vector<Departure> departures = {
      [](uint32_t w) { return field(w, 8, 2) != 0; }},
     {"hint-bits", false, {"NOP", "YIELD", "WFE", "WFI", "SEV", "DBG", "unallocated hint"}, [](uint32_t w) { return !to_pc(w); }},
     {"trap-condition", false, {"BKPT", "UDF"}, [](uint32_t w) { return field(w, 28, 4) != 14; }},
-    {"preload-swapped", false, preloads, preload_bits},
-    {"preload-refused", true, preloads, [](uint32_t) { return true; }},
-    {"barrier-as-preload", false, {"DSB", "ISB"}, preload_bits},
-    {"undefined-as-preload", false, undefined, [](uint32_t w) { return field(w, 28, 4) == 15 && field(w, 24, 4) == 5 && preload_bits(w); }},
+    {"preload-bits", true, preloads, [](uint32_t w) { return !to_pc(w); }},
+    {"minus-zero", false, preloads, [](uint32_t w) { return !bit(w, 23) && field(w, 0, 12) == 0; }},
+    {"preload-literal", false, {"UNPREDICTABLE"}, literal_pldw},
+    {"barrier-bits", true, {"CLREX", "DSB", "DMB", "ISB"}, [](uint32_t w) { return field(w, 8, 12) != 0xff0; }},
 };
 
 struct Count {

@@ -45,10 +45,11 @@ enum {
     5  four operands, of eleven numbers each, 0 where the kind has none:
 
     +0  kind: 0 none, 1 register, 2 shifted register, 3 shift by a register, 4 shift of a saturate, 5 rotation, 6 signed count,
-        7 unsigned number, 8 status mask, 9 status register, 10 register that is written back, 11 list of registers, 12 address, 13 memory
+        7 unsigned number, 8 status mask, 9 status register, 10 register that is written back, 11 list of registers, 12 address, 13 memory,
+        14 option of a barrier
     +1  register, or base
     +2  kind of a shift: 0 lsl, 1 lsr, 2 asr, 3 ror; or status register: 0 the application's, 1 the saved one; or 1 if memory has an index
-    +3  amount of a shift, of a rotation or of the index; or status mask
+    +3  amount of a shift, of a rotation or of the index; or status mask; or option
     +4  1 if the count or displacement is negative
     +5  count or displacement, of a negative one its complement: -1 is 1 and 0; or number, list or address
     +6  index register

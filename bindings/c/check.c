@@ -1,5 +1,5 @@
 /* The header's promises, through the header. Standard input has lines as crates/answers/stdout has them: an address, a digest and the line of
-   a word, which the unchanged Rust's answer has. */
+   a word, as the oracle has them. */
 #include "brassdozen.h"
 
 #include <inttypes.h>

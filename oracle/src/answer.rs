@@ -57,6 +57,7 @@ pub enum Operand {
     List(u16),
     Address(u32),
     Memory(Memory),
+    Option(u8),
 }
 
 /// A memory form.
@@ -167,6 +168,7 @@ impl Operand {
             Operand::List(list) => all(&[11, list.into()]),
             Operand::Address(address) => all(&[12, address.into()]),
             Operand::Memory(memory) => all(&memory.numbers()),
+            Operand::Option(option) => all(&[14, option.into()]),
         }
     }
 }

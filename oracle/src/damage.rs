@@ -63,7 +63,7 @@ impl Damage {
             Damage::Condition => "another condition",
             Damage::Operand => "an operand added or taken away",
             Damage::Sign => "a sign turned",
-            Damage::Choice => "another shift kind or status source",
+            Damage::Choice => "another shift kind, status source or option",
             Damage::Index => "another index shift, an index added or taken away",
             Damage::Size => "another size",
             Damage::Mode => "another mode",
@@ -275,7 +275,8 @@ fn number_off(operand: &mut Operand, random: &mut Random) -> bool {
         Operand::Shifted { amount, .. }
         | Operand::SaturateShift { amount, .. }
         | Operand::Rotate(amount)
-        | Operand::StatusMask(amount) => *amount = amount.wrapping_add_signed(by),
+        | Operand::StatusMask(amount)
+        | Operand::Option(amount) => *amount = amount.wrapping_add_signed(by),
         Operand::Memory(memory) => {
             memory.displacement = memory.displacement.wrapping_add(by.into());
         }
@@ -299,6 +300,7 @@ fn widen_operand(operand: &mut Operand, random: &mut Random) -> bool {
         Operand::Register(register)
         | Operand::ShiftByRegister { register, .. }
         | Operand::WriteBack(register) => *register = register.wrapping_add(past(4, random)),
+        Operand::Option(option) => *option = option.wrapping_add(past(4, random)),
         Operand::Shifted { register, .. } if random.coin() => {
             *register = register.wrapping_add(past(4, random));
         }
@@ -394,6 +396,7 @@ fn another_choice(operand: &mut Operand, random: &mut Random) -> bool {
         | Operand::ShiftByRegister { kind, .. }
         | Operand::SaturateShift { kind, .. } => *kind = made::shift_kind(random),
         Operand::StatusSource(source) => *source = made::status_source(random),
+        Operand::Option(option) => *option = made::option(random),
         _ => return false,
     }
     true

@@ -1,4 +1,6 @@
-//! The home word of an accepted word, as document 01 has it in "Home words".
+//! The home word of an accepted word, as document 01 has it in "Home words", and 02, P1.
+
+use crate::pattern::{Pattern, pattern};
 
 /// The words under a condition below 15, or those under condition 15.
 pub struct Space {
@@ -13,13 +15,6 @@ pub struct Space {
 pub struct Row {
     pub words: Pattern,
     cleared: u32,
-}
-
-/// The bits that a word has to have.
-#[derive(Clone, Copy)]
-pub struct Pattern {
-    fixed: u32,
-    value: u32,
 }
 
 /// Register data processing is drawn twice: shifted by a number, with bit 4 clear, and by a
@@ -78,11 +73,11 @@ pub static CONDITIONAL: Space = Space {
     upward: pattern("0101 ..0. .... .... 0000 0000 0000"),
 };
 
-pub static CONDITION_15: Space = Space {
-    // preloads
-    rows: &[row("0101 .... .... 1111 .... ...0 ....", &[(21, 20)])],
+static CONDITION_15: Space = Space {
+    // clrex
+    rows: &[row("0101 0111 1111 1111 0000 0001 ....", &[(3, 0)])],
     // preloads, when 11:0 is 0
-    upward: pattern("0101 .... .... 1111 0000 0000 0000"),
+    upward: pattern("0101 ..01 .... 1111 0000 0000 0000"),
 };
 
 /// The home word of an accepted word; a refused one has none.
@@ -111,42 +106,6 @@ const fn row(drawn: &str, fields: &[(u32, u32)]) -> Row {
     Row {
         words: pattern(drawn),
         cleared,
-    }
-}
-
-/// Bits 27:0, the highest first: 0, 1, or a dot for either.
-pub const fn pattern(drawn: &str) -> Pattern {
-    let drawn = drawn.as_bytes();
-    let mut pattern = Pattern { fixed: 0, value: 0 };
-    let mut bits = 0;
-    let mut place = 0;
-    while place < drawn.len() {
-        let bit = match drawn[place] {
-            b'0' => Some((1, 0)),
-            b'1' => Some((1, 1)),
-            b'.' => Some((0, 0)),
-            b' ' => None,
-            _ => panic!("a bit is drawn as 0, 1 or a dot"),
-        };
-        if let Some((fixed, value)) = bit {
-            pattern.fixed = pattern.fixed << 1 | fixed;
-            pattern.value = pattern.value << 1 | value;
-            bits += 1;
-        }
-        place += 1;
-    }
-    assert!(bits == 28, "bits 27:0 are drawn");
-    pattern
-}
-
-impl Pattern {
-    fn has(self, word: u32) -> bool {
-        word & self.fixed == self.value
-    }
-
-    /// The word, made to have these bits.
-    pub fn put_into(self, word: u32) -> u32 {
-        word & !self.fixed | self.value
     }
 }
 
@@ -248,13 +207,22 @@ mod tests {
     }
 
     #[test]
-    fn saturates_and_preloads() {
+    fn saturates() {
         check(&[
             (0xe6bf_1fdf, 0xe6af_1fdf), // ssat
             (0xe6ff_1fdf, 0xe6ef_1fdf), // usat
             (0xe6bf_1f31, 0xe6bf_1f31), // rev, beside them
-            (0xf57f_f04f, 0xf54f_f04f), // pldw
-            (0xf53f_f000, 0xf58f_f000), // pld, minus zero
+        ]);
+    }
+
+    #[test]
+    fn condition_15() {
+        check(&[
+            (0xf57f_f01f, 0xf57f_f010), // clrex
+            (0xf57f_f04f, 0xf57f_f04f), // dsb
+            (0xf550_f000, 0xf5d0_f000), // pld, minus zero
+            (0xf51f_f000, 0xf59f_f000), // pldw, minus zero
+            (0xf550_f010, 0xf550_f010), // pld, minus 16
             (0xfa00_0000, 0xfa00_0000), // blx
         ]);
     }

@@ -3,7 +3,9 @@
 use std::fmt::{self, Display, Formatter};
 
 use crate::answer::{Answer, Flow, Instruction, Memory, Mode, Operand};
-use crate::names::{REGISTERS, ROOTS, SHIFTS, STATUS_MASKS, STATUS_SOURCES, SUFFIXES};
+use crate::names::{
+    BARRIER_OPTIONS, REGISTERS, ROOTS, SHIFTS, STATUS_MASKS, STATUS_SOURCES, SUFFIXES,
+};
 
 /// A word at its address, with the answer to it.
 pub struct Line {
@@ -76,6 +78,7 @@ impl Display for Operand {
             Operand::List(list) => write!(f, "{{{list:04x}}}"),
             Operand::Address(address) => write!(f, "@{address:08x}"),
             Operand::Memory(memory) => memory.fmt(f),
+            Operand::Option(option) => f.write_str(BARRIER_OPTIONS[option as usize]),
         }
     }
 }

@@ -1,8 +1,10 @@
 //! Instruction values made from nothing, their parts, and words to decode.
 
 use crate::answer::{Flow, Index, Instruction, Memory, Mode, Operand, PLACES};
-use crate::home::{CONDITION_15, CONDITIONAL, Pattern, pattern};
-use crate::names::{SHIFTS, STATUS_SOURCES};
+use crate::excepted;
+use crate::home::CONDITIONAL;
+use crate::names::{BARRIER_OPTIONS, SHIFTS, STATUS_SOURCES};
+use crate::pattern::{Pattern, pattern};
 use crate::random::Random;
 
 /// A value of any parts. Most are no word's answer.
@@ -67,7 +69,7 @@ pub fn flow_to(target: u32, random: &mut Random) -> Flow {
 
 /// An operand of any kind but the empty one.
 pub fn operand(random: &mut Random) -> Operand {
-    match random.below(13) {
+    match random.below(14) {
         0 => Operand::Register(register(random)),
         1 => Operand::Shifted {
             register: register(random),
@@ -90,7 +92,8 @@ pub fn operand(random: &mut Random) -> Operand {
         9 => Operand::WriteBack(register(random)),
         10 => Operand::List(random.bits() as u16),
         11 => Operand::Address(random.bits() as u32),
-        _ => Operand::Memory(memory(random)),
+        12 => Operand::Memory(memory(random)),
+        _ => Operand::Option(option(random)),
     }
 }
 
@@ -139,6 +142,15 @@ pub fn status_source(random: &mut Random) -> u8 {
     random.place_below(STATUS_SOURCES.len()) as u8
 }
 
+/// An option, now and then one that there is not.
+pub fn option(random: &mut Random) -> u8 {
+    if random.one_in(8) {
+        random.bits() as u8
+    } else {
+        random.place_below(BARRIER_OPTIONS.len()) as u8
+    }
+}
+
 /// An amount or a mask, with what is at and above the largest of them.
 pub fn amount(random: &mut Random) -> u8 {
     match random.below(4) {
@@ -178,7 +190,7 @@ pub fn word(random: &mut Random) -> u32 {
 /// The words of a row under this condition.
 fn row_words(condition: u32, random: &mut Random) -> Pattern {
     if condition == 15 {
-        random.pick(CONDITION_15.rows).words
+        random.pick(&excepted::ROWS).words
     } else if random.coin() {
         random.pick(CONDITIONAL.rows).words
     } else {

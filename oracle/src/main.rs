@@ -1,4 +1,5 @@
-//! The oracle: what the unchanged Rust answers, as lines to read and as digests to compare with.
+//! The oracle: what is right for a word, as the unchanged Rust and, in few rows, the manual have
+//! it; as lines to read and as digests to compare with.
 
 // The Rust's files take `Addr` from a crate of this name.
 extern crate self as e5r_core;
@@ -9,12 +10,14 @@ mod bench;
 mod cores;
 mod damage;
 mod digest;
+mod excepted;
 mod home;
 mod line;
 mod load;
 mod made;
 mod names;
 mod oracle;
+mod pattern;
 mod proved;
 mod random;
 mod reports;
@@ -48,8 +51,8 @@ modes of the oracle (numbers are hexadecimal, but COUNT and SEED; no SET is ever
   lines                reads lines of address, tab, word; adds the line of the listing to each
   answers              reads the same; prints what the program `answers` prints of each
   listings FILE ..     prints what the program `listings` prints of the sections in the files
-  count [SET]          counts what the Rust accepts and refuses
-  sweep ADDRESS [SET]  compares the Rust with the proved code, word by word
+  count [SET]          counts what is accepted and refused, and where the Rust has another answer
+  sweep ADDRESS [SET]  counts the same, and compares it with the proved code, word by word
   trip ADDRESS [SET]   has the proved code decode and encode each word, which gives its home word
   values COUNT SEED    has the proved code encode made-up values
   load COUNT SEED      has the proved code list made-up and damaged sections

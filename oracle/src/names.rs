@@ -1,11 +1,13 @@
-//! The fixed tables of names: roots, conditions, registers, shifts, status masks and sources.
+//! The fixed tables of names: roots, conditions, registers, shifts, status masks and sources, and
+//! the options of a barrier.
 
+pub(crate) use crate::arm::BARRIERS as BARRIER_OPTIONS;
 pub(crate) use crate::arm::MSR_MASKS as STATUS_MASKS;
 
-/// The roots by name number, in the order in which a32.rs first spells them. Its barriers and
-/// `clrex` are left out: no word reaches them (01, "Known differences").
+/// The roots by name number, in the order in which a32.rs first spells them; but `clrex` and the
+/// barriers are last, as no word of the Rust's reaches them.
 #[rustfmt::skip]
-pub const ROOTS: [&str; 129] = [
+pub const ROOTS: [&str; 133] = [
     "and", "eor", "sub", "rsb", "add", "adc", "sbc", "rsc",
     "tst", "teq", "cmp", "cmn", "orr", "mov", "bic", "mvn",
     "ands", "eors", "subs", "rsbs", "adds", "adcs", "sbcs", "rscs",
@@ -28,6 +30,7 @@ pub const ROOTS: [&str; 129] = [
     "ldmda", "ldm", "ldmdb", "ldmib", "stmda", "stm", "stmdb", "stmib", "pop", "push",
     "bl", "b",
     "pld", "pldw",
+    "clrex", "dsb", "dmb", "isb",
 ];
 
 /// What each condition adds to a root.

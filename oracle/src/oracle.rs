@@ -1,10 +1,12 @@
-//! The Rust's answer to a word, read as an `Answer`. What an answer can't express stops the program.
+//! The answer that is right for a word: the manual's for those that 02, P1, excepts, and else the
+//! Rust's, read as an `Answer`. What an answer can't express stops the program.
 
 use std::ptr;
 
 use crate::addr::Addr;
 use crate::answer::{Answer, Flow, Index, Instruction, Memory, Mode, Operand, PLACES};
 use crate::arm::{self, text};
+use crate::excepted;
 use crate::insn::{self, AddrMode, Extend, Insn, Mem, Reg, Shift};
 use crate::names::{REGISTERS, ROOTS, SHIFTS, STATUS_MASKS, STATUS_SOURCES, SUFFIXES};
 
@@ -25,6 +27,14 @@ impl Oracle {
 
     /// The answer to `word` at `address`.
     pub fn answer(&mut self, word: u32, address: u64) -> Answer {
+        if excepted::is_excepted(word) {
+            return excepted::answer(word, address);
+        }
+        self.rust(word, address)
+    }
+
+    /// The Rust's own.
+    pub fn rust(&mut self, word: u32, address: u64) -> Answer {
         if is_coprocessor(word) {
             return Answer::Refused(2);
         }

@@ -29,7 +29,7 @@ pub fn row(value: &Instruction) -> Row {
 
 /// An operand's numbers. Those that its kind has no use for are 0.
 fn operand_row(operand: Operand) -> [u64; OPERAND] {
-    // kind; register; shift's kind or status source; amount or mask; sign; value
+    // kind; register; shift's kind or status source; amount, mask or option; sign; value
     let [kind, register, choice, amount, sign, value] = match operand {
         Operand::Empty => [0; 6],
         Operand::Register(register) => [1, register.into(), 0, 0, 0, 0],
@@ -52,6 +52,7 @@ fn operand_row(operand: Operand) -> [u64; OPERAND] {
         Operand::List(list) => [11, 0, 0, 0, 0, list.into()],
         Operand::Address(address) => [12, 0, 0, 0, 0, address.into()],
         Operand::Memory(memory) => return memory_row(memory),
+        Operand::Option(option) => [14, 0, 0, option.into(), 0, 0],
     };
     [kind, register, choice, amount, sign, value, 0, 0, 0, 0, 0]
 }
@@ -106,7 +107,7 @@ mod tests {
                     amount: 31,
                 },
                 Operand::Count(-1),
-                Operand::Empty,
+                Operand::Option(15),
                 Operand::Memory(Memory {
                     base: 13,
                     index: Some(Index {
@@ -125,7 +126,7 @@ mod tests {
         assert_eq!(row[..5], [1 << 40, 300, 20, 4, 9]);
         assert_eq!(row[5..16], [2, 14, 3, 31, 0, 0, 0, 0, 0, 0, 0]);
         assert_eq!(row[16..27], [6, 0, 0, 0, 1, 0, 0, 0, 0, 0, 0]);
-        assert_eq!(row[27..38], [0; 11]);
+        assert_eq!(row[27..38], [14, 0, 0, 15, 0, 0, 0, 0, 0, 0, 0]);
         let most = (1 << 63) - 1;
         assert_eq!(row[38..], [13, 13, 1, 2, 1, most, 12, 2, 8, 1, 0]);
     }

@@ -6,18 +6,20 @@ use std::iter::Sum;
 use crate::answer::Answer;
 use crate::cores::on_every_core;
 use crate::digest::{START, fold};
+use crate::excepted::Exceptions;
 use crate::line::Line;
 use crate::oracle::Oracle;
 use crate::proved::Proved;
 use crate::reports::Reports;
 use crate::words::Block;
 
-/// How many words were accepted and refused.
+/// How many words were accepted and refused, and how many have another answer than the Rust's.
 #[derive(Default)]
 pub struct Tally {
     accepted: u64,
     refused_2: u64,
     refused_3: u64,
+    exceptions: Exceptions,
 }
 
 impl Tally {
@@ -36,6 +38,7 @@ impl Sum for Tally {
             accepted: total.accepted + tally.accepted,
             refused_2: total.refused_2 + tally.refused_2,
             refused_3: total.refused_3 + tally.refused_3,
+            exceptions: [total.exceptions, tally.exceptions].into_iter().sum(),
         })
     }
 }
@@ -44,7 +47,7 @@ impl Display for Tally {
     fn fmt(&self, f: &mut Formatter) -> fmt::Result {
         writeln!(f, "{} accepted", self.accepted)?;
         writeln!(f, "{} refused 2", self.refused_2)?;
-        write!(f, "{} refused 3", self.refused_3)
+        write!(f, "{} refused 3{}", self.refused_3, self.exceptions)
     }
 }
 
@@ -54,6 +57,7 @@ pub fn count(blocks: &[Block]) -> Tally {
         for word in block.words() {
             tally.add(&oracle.answer(word, 0));
         }
+        tally.exceptions.add(oracle, block);
     })
 }
 
@@ -68,6 +72,7 @@ pub fn sweep(proved: Proved, address: u64, blocks: &[Block]) -> (Tally, u64) {
         if comparison.differs(oracle, block, |answer| tally.add(answer)) {
             comparison.narrow(oracle, block);
         }
+        tally.exceptions.add(oracle, block);
     });
     (tally, comparison.differences.count())
 }

@@ -1,5 +1,5 @@
 //! The header's promises, on many inputs. What the functions answer is compared with what the
-//! repository stores of the unchanged Rust's answers, and with each other's; and every lent buffer
+//! repository stores of the oracle's answers, and with each other's; and every lent buffer
 //! is looked at beyond what may be written.
 
 use std::fs;
@@ -71,8 +71,8 @@ fn line_of(address: u64, word: u32) -> Vec<u8> {
     out[..length].to_vec()
 }
 
-/// The words of `crates/answers`, each with its address, and the digest and the line that the Rust's
-/// answer to it has.
+/// The words of `crates/answers`, each with its address, and the digest and the line of the oracle's
+/// answer to it.
 fn stored_words() -> Vec<(u64, u32, u64, String)> {
     let words: Vec<_> = stored_text("answers/stdout")
         .lines()
@@ -121,7 +121,7 @@ fn digested_numbers(row: &[u64; ROW]) -> Vec<u64> {
             2 => vec![register, how, amount],
             3 => vec![how, register],
             4 => vec![how, amount],
-            5 | 8 => vec![amount],
+            5 | 8 | 14 => vec![amount],
             6 => vec![upper, lower],
             7 | 11 | 12 => vec![value],
             9 => vec![how],
@@ -347,7 +347,7 @@ fn listing_of(section: &[u8]) -> Vec<u8> {
     out[..length].to_vec()
 }
 
-/// The sections of `crates/listings`, and what the Rust's answers make of them.
+/// The sections of `crates/listings`, and what the oracle's answers make of them.
 #[test]
 fn listings_are_those_of_the_rust() {
     let mut expected = stored("listings/stdout").into_iter();

@@ -9,14 +9,14 @@ use Rattle.word.specs.Field.{field}
 use Rattle.word.specs.Signed.{sextOf}
 use Rattle.insn.specs.Answer.{insnOf, places, accepted, refused}
 use Rattle.insn.specs.Memory.{baseDisp}
-use Rattle.insn.specs.Name.{MOV, LSR, RRX, CMP, BFC, POP, B, BLX, LDR, PLDW}
+use Rattle.insn.specs.Name.{MOV, LSR, RRX, CMP, BFC, POP, B, BLX, LDR, DSB}
 use Rattle.insn.specs.declared.Decoded.{Decoded}
 use Rattle.insn.specs.declared.Flow.{Flow}
 use Rattle.insn.specs.declared.Flow.the-variants.{Next, Branch, IndirectBranch, Call, Return}
 use Rattle.insn.specs.declared.Index.the-variants.{Absent}
 use Rattle.insn.specs.declared.AddrMode.the-variants.{PostIndex}
 use Rattle.insn.specs.declared.Operand.{Operand}
-use Rattle.insn.specs.declared.Operand.the-variants.{Register, Count, Address, Memory}
+use Rattle.insn.specs.declared.Operand.the-variants.{Register, Count, Address, Memory, Option}
 use Rattle.insn.specs.declared.Operand.the-variants as Op
 use Rattle.arm.specs.Shifts.{plainOf, rrxOf}
 use Rattle.imm.specs.Imm.{soImmOf, leastOf}
@@ -26,7 +26,7 @@ use Rattle.ldst.specs.Mem.{unprivilegedOf, postOf, minusZeroOf}
 use Rattle.ldst.specs.Ldst as L
 use Rattle.transfer.specs.Block.{stackOf}
 use Rattle.transfer.specs.Branch.{targetFrom}
-use Rattle.transfer.specs.Unconditional.{preloadSlot}
+use Rattle.transfer.specs.Unconditional.{barrierSlot, preloadSlot}
 use Rattle.a32.specs.Decode as D
 use Rattle.a32.specs.Decode.{decodeOf, groupOf, dpMiscOf, controlOf}
 
@@ -86,11 +86,11 @@ table =
     -- 13: e4110000 has minus zero, e5110000 has none
     always 0xe4110000 LDR Next (r 0 ∷ Memory (record { base = record { 0 = 1 }; index = Absent; disp = pos 0; mode = PostIndex; size = 4; decimal = true; «minus_zero» = true }) ∷ []) ∷
     always 0xe5110000 LDR Next (r 0 ∷ Memory (baseDisp (record { 0 = 1 }) (pos 0) 4) ∷ []) ∷
-    -- 14: pldw
+    -- 14: dsb (02, P1)
     record {
       word = 0xf57ff04f;
       addr = 0x8000;
-      answer = accepted (insnOf 0x8000 PLDW (record { 0 = 15 }) Next (places (Memory (baseDisp (record { 0 = 15 }) (negsuc 78) 1) ∷ [])));
+      answer = accepted (insnOf 0x8000 DSB (record { 0 = 15 }) Next (places (Option 15 ∷ [])));
     } ∷
     []
 
@@ -100,5 +100,5 @@ Answers [] = Unit
 Answers (c ∷ cs) = (decodeOf (c .word) (c .addr) ≡ c .answer) × Answers cs
 
 pub cases : Answers table
-unfolding field sextOf onesIn plainOf rrxOf soImmOf leastOf dpName shiftName hintSlot unprivilegedOf postOf minusZeroOf L.refusedIndexOf L.markedOf stackOf targetFrom preloadSlot decodeOf groupOf dpMiscOf controlOf D.plainOf D.extraOf
+unfolding field sextOf onesIn plainOf rrxOf soImmOf leastOf dpName shiftName hintSlot unprivilegedOf postOf minusZeroOf L.refusedIndexOf L.markedOf stackOf targetFrom barrierSlot preloadSlot decodeOf groupOf dpMiscOf controlOf D.plainOf D.extraOf
 cases = (refl, (refl, (refl, (refl, (refl, (refl, (refl, (refl, (refl, (refl, (refl, (refl, (refl, (refl, (refl, (refl, (refl, (refl, tt))))))))))))))))))

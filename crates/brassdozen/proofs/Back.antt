@@ -20,7 +20,7 @@ use Rattle.insn.specs.declared.Index.{Index}
 use Rattle.insn.specs.declared.Index.the-variants.{Absent, Left}
 use Rattle.insn.specs.declared.Insn.{Insn}
 use Rattle.insn.specs.declared.Operand.{Operand}
-use Rattle.insn.specs.declared.Operand.the-variants.{Empty, Register, Shifted, ShiftBy, SaturateShift, Rotate, Count, Number, StatusMask, StatusSource, WriteBack, List as RegisterList, Address, Memory}
+use Rattle.insn.specs.declared.Operand.the-variants.{Empty, Register, Shifted, ShiftBy, SaturateShift, Rotate, Count, Number, StatusMask, StatusSource, WriteBack, List as RegisterList, Address, Memory, Option}
 use Rattle.insn.specs.declared.Place.{Place}
 use Rattle.a32.specs.Decode.{decodeOf}
 use Rattle.home.specs.Home.{homeOf}
@@ -67,6 +67,7 @@ narrow last name (RegisterList n) h = h
 narrow last name (Address n) h = h
 narrow last name (Memory m) h =
     (omega (arith, h .1 .base), (index-narrow (m .index) (h .1 .index), (signed-narrow (m .disp) (omega (arith, h .1 .disp)), omega (arith, h .1 .size))))
+narrow last name (Option n) h = omega (arith, h .1)
 
 -- the address at place 0, if one is there
 address-narrow : (last : Bool) (name : ℕ) (o : Operand) (os : List Operand) → Sound last name o → targetIn (o ∷ os) < 2 ^ 32
@@ -84,6 +85,7 @@ address-narrow last name (WriteBack r) os h = omega arith
 address-narrow last name (RegisterList n) os h = omega arith
 address-narrow last name (Address n) os h = h
 address-narrow last name (Memory m) os h = omega arith
+address-narrow last name (Option n) os h = omega arith
 
 places-narrow : (name : ℕ) (os : List Operand) → Laid name os → targetIn os < 2 ^ 32
 places-narrow name [] h = omega arith

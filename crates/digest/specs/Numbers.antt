@@ -10,7 +10,7 @@ use Rattle.insn.specs.declared.Index.{Index}
 use Rattle.insn.specs.declared.Index.the-variants.{Absent, Left}
 use Rattle.insn.specs.declared.Mem.{Mem}
 use Rattle.insn.specs.declared.Operand.{Operand}
-use Rattle.insn.specs.declared.Operand.the-variants.{Empty, Register, Shifted, ShiftBy, SaturateShift, Rotate, Count, Number, StatusMask, StatusSource, WriteBack, List as RegisterList, Address, Memory}
+use Rattle.insn.specs.declared.Operand.the-variants.{Empty, Register, Shifted, ShiftBy, SaturateShift, Rotate, Count, Number, StatusMask, StatusSource, WriteBack, List as RegisterList, Address, Memory, Option}
 use Rattle.insn.specs.declared.Place.{Place}
 use Rattle.insn.specs.declared.Insn.{Insn}
 use Rattle.insn.specs.declared.Decoded.{Decoded}
@@ -46,7 +46,7 @@ memNumbers m =
     []
 
 -- "a register, shifted register, shift by register, saturate shift, rotate, signed count, unsigned number, status mask,
--- status source, write-back register, register list, address, or memory form", from 1 on
+-- status source, write-back register, register list, address, or memory form", from 1 on; 02, P1: "a new kind, the option"
 abbrev pub operandNumbers : Operand → List ℕ
 operandNumbers Empty = 0 ∷ []
 operandNumbers (Register r) = 1 ∷ r .0 ∷ []
@@ -62,6 +62,7 @@ operandNumbers (WriteBack r) = 10 ∷ r .0 ∷ []
 operandNumbers (RegisterList n) = 11 ∷ n ∷ []
 operandNumbers (Address n) = 12 ∷ n ∷ []
 operandNumbers (Memory m) = 13 ∷ memNumbers m
+operandNumbers (Option n) = 14 ∷ n ∷ []
 
 abbrev pub placesNumbers : List Place → List ℕ
 placesNumbers [] = []

@@ -92,6 +92,7 @@ impl State {
             Operand::List(list) => self.byte(11).half(list),
             Operand::Address(a) => self.byte(12).word(a),
             Operand::Memory(m) => self.byte(13).mem(m),
+            Operand::Option(n) => self.byte(14).byte(n),
         }
     }
 

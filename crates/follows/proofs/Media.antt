@@ -29,7 +29,7 @@ module _ (w addr : ℕ) (cond : eqb (field w 28 4) 15 ≡ false) (group : field 
   extend-8 e =
       by-field w 5 3
       ((λ u. simp (ops, highs, groups, cond, group, low, e, u) (named w addr _ refl refl refl)) also
-      (λ u. simp (ops, highs, groups, cond, group, low, e, u) (undefined-held w addr cond)) also
+      (λ u. simp (ops, highs, groups, cond, group, low, e, u) (undefined-held w addr)) also
       (λ u. simp (ops, highs, groups, cond, group, low, e, u) (named w addr _ refl refl refl)) also
       (λ u. split (eqb (field w 8 2) 0)
       (λ k. split (eqb (field w 16 4) 15)
@@ -41,16 +41,16 @@ module _ (w addr : ℕ) (cond : eqb (field w 28 4) 15 ≡ false) (group : field 
       (λ u. simp (ops, highs, groups, cond, group, low, e, u) (named w addr _ refl refl refl)) also
       (λ u. simp (ops, highs, groups, cond, group, low, e, u) (named w addr _ refl refl refl)) also
       (λ u. simp (ops, highs, groups, cond, group, low, e, u) (named w addr _ refl refl refl)) also
-      (λ u. simp (ops, highs, groups, cond, group, low, e, u) (undefined-held w addr cond)) also
+      (λ u. simp (ops, highs, groups, cond, group, low, e, u) (undefined-held w addr)) also
       tt)
 
   extend-12 : field w 20 5 ≡ 12 → HeldAt w addr
   unfolding decodeOf groupOf saidOf pageOf standingOf A.tableRow A.media A.packing
   extend-12 e =
       by-field w 5 3
-      ((λ u. simp (ops, highs, groups, cond, group, low, e, u) (undefined-held w addr cond)) also
-      (λ u. simp (ops, highs, groups, cond, group, low, e, u) (undefined-held w addr cond)) also
-      (λ u. simp (ops, highs, groups, cond, group, low, e, u) (undefined-held w addr cond)) also
+      ((λ u. simp (ops, highs, groups, cond, group, low, e, u) (undefined-held w addr)) also
+      (λ u. simp (ops, highs, groups, cond, group, low, e, u) (undefined-held w addr)) also
+      (λ u. simp (ops, highs, groups, cond, group, low, e, u) (undefined-held w addr)) also
       (λ u. split (eqb (field w 8 2) 0)
       (λ k. split (eqb (field w 16 4) 15)
       (λ r. simp (ops, highs, groups, cond, group, low, e, u, k, r) (holds (simp (bits, u, k, r))))
@@ -58,10 +58,10 @@ module _ (w addr : ℕ) (cond : eqb (field w 28 4) 15 ≡ false) (group : field 
       (λ k. split (eqb (field w 16 4) 15)
       (λ r. simp (ops, highs, groups, cond, group, low, e, u, k, r) (holds (simp (bits, u, k, r) (refl, refuses))))
       (λ r. simp (ops, highs, groups, cond, group, low, e, u, k, r) (holds (simp (bits, u, k, r) (refl, refuses)))))) also
-      (λ u. simp (ops, highs, groups, cond, group, low, e, u) (undefined-held w addr cond)) also
-      (λ u. simp (ops, highs, groups, cond, group, low, e, u) (undefined-held w addr cond)) also
-      (λ u. simp (ops, highs, groups, cond, group, low, e, u) (undefined-held w addr cond)) also
-      (λ u. simp (ops, highs, groups, cond, group, low, e, u) (undefined-held w addr cond)) also
+      (λ u. simp (ops, highs, groups, cond, group, low, e, u) (undefined-held w addr)) also
+      (λ u. simp (ops, highs, groups, cond, group, low, e, u) (undefined-held w addr)) also
+      (λ u. simp (ops, highs, groups, cond, group, low, e, u) (undefined-held w addr)) also
+      (λ u. simp (ops, highs, groups, cond, group, low, e, u) (undefined-held w addr)) also
       tt)
 
   saturate-10 : field w 20 5 ≡ 10 → HeldAt w addr
@@ -79,9 +79,9 @@ module _ (w addr : ℕ) (cond : eqb (field w 28 4) 15 ≡ false) (group : field 
       (λ r. simp (ops, highs, groups, cond, group, low, e, u, k, r) (holds (simp (bits, u, k, r) (refl, refuses))))
       (λ r. simp (ops, highs, groups, cond, group, low, e, u, k, r) (holds (simp (bits, u, k, r) (refl, refuses)))))) also
       (λ u. simp (ops, highs, groups, cond, group, low, e, u) (holds (simp (bits, ops, highs, saturate-is, wide-16-5, zero-add, e, u)))) also
-      (λ u. simp (ops, highs, groups, cond, group, low, e, u) (undefined-held w addr cond)) also
+      (λ u. simp (ops, highs, groups, cond, group, low, e, u) (undefined-held w addr)) also
       (λ u. simp (ops, highs, groups, cond, group, low, e, u) (holds (simp (bits, ops, highs, saturate-is, wide-16-5, zero-add, e, u)))) also
-      (λ u. simp (ops, highs, groups, cond, group, low, e, u) (undefined-held w addr cond)) also
+      (λ u. simp (ops, highs, groups, cond, group, low, e, u) (undefined-held w addr)) also
       tt)
 
   saturate-11 : field w 20 5 ≡ 11 → HeldAt w addr
@@ -109,7 +109,7 @@ module _ (w addr : ℕ) (cond : eqb (field w 28 4) 15 ≡ false) (group : field 
       (λ k. simp (ops, highs, groups, cond, group, low, e, u, r, k) (holds (simp (bits, u, r, k) (refl, refuses)))))
       (λ r. simp (ops, highs, groups, cond, group, low, e, u, r) (holds (simp (bits, u, r) (refl, refuses))))) also
       (λ u. simp (ops, highs, groups, cond, group, low, e, u) (holds (simp (bits, ops, highs, saturate-is, wide-16-5, zero-add, e, u) (refl, apart (countAt 1) _ _ (far-1 (field w 16 4)))))) also
-      (λ u. simp (ops, highs, groups, cond, group, low, e, u) (undefined-held w addr cond)) also
+      (λ u. simp (ops, highs, groups, cond, group, low, e, u) (undefined-held w addr)) also
       tt)
 
   saturate-14 : field w 20 5 ≡ 14 → HeldAt w addr
@@ -127,9 +127,9 @@ module _ (w addr : ℕ) (cond : eqb (field w 28 4) 15 ≡ false) (group : field 
       (λ r. simp (ops, highs, groups, cond, group, low, e, u, k, r) (holds (simp (bits, u, k, r) (refl, refuses))))
       (λ r. simp (ops, highs, groups, cond, group, low, e, u, k, r) (holds (simp (bits, u, k, r) (refl, refuses)))))) also
       (λ u. simp (ops, highs, groups, cond, group, low, e, u) (holds (simp (bits, ops, highs, saturate-is, wide-16-5, zero-add, e, u)))) also
-      (λ u. simp (ops, highs, groups, cond, group, low, e, u) (undefined-held w addr cond)) also
+      (λ u. simp (ops, highs, groups, cond, group, low, e, u) (undefined-held w addr)) also
       (λ u. simp (ops, highs, groups, cond, group, low, e, u) (holds (simp (bits, ops, highs, saturate-is, wide-16-5, zero-add, e, u)))) also
-      (λ u. simp (ops, highs, groups, cond, group, low, e, u) (undefined-held w addr cond)) also
+      (λ u. simp (ops, highs, groups, cond, group, low, e, u) (undefined-held w addr)) also
       tt)
 
   saturate-15 : field w 20 5 ≡ 15 → HeldAt w addr
@@ -157,7 +157,7 @@ module _ (w addr : ℕ) (cond : eqb (field w 28 4) 15 ≡ false) (group : field 
       (λ k. simp (ops, highs, groups, cond, group, low, e, u, r, k) (holds (simp (bits, u, r, k) (refl, refuses)))))
       (λ r. simp (ops, highs, groups, cond, group, low, e, u, r) (holds (simp (bits, u, r) (refl, refuses))))) also
       (λ u. simp (ops, highs, groups, cond, group, low, e, u) (holds (simp (bits, ops, highs, saturate-is, wide-16-5, zero-add, e, u) (refl, apart (countAt 1) _ _ (far (field w 16 4)))))) also
-      (λ u. simp (ops, highs, groups, cond, group, low, e, u) (undefined-held w addr cond)) also
+      (λ u. simp (ops, highs, groups, cond, group, low, e, u) (undefined-held w addr)) also
       tt)
 
   divide-17 : field w 20 5 ≡ 17 → HeldAt w addr
@@ -165,43 +165,43 @@ module _ (w addr : ℕ) (cond : eqb (field w 28 4) 15 ≡ false) (group : field 
   divide-17 e =
       split (eqb (field w 5 3) 0)
       (λ u. simp (ops, highs, groups, cond, group, low, e, eqb-true (field w 5 3) 0 u) (holds refl))
-      (λ u. simp (ops, highs, groups, cond, group, low, e, u) (undefined-held w addr cond))
+      (λ u. simp (ops, highs, groups, cond, group, low, e, u) (undefined-held w addr))
 
   divide-19 : field w 20 5 ≡ 19 → HeldAt w addr
   unfolding decodeOf groupOf saidOf pageOf standingOf A.tableRow A.media A.signedMultiply
   divide-19 e =
       split (eqb (field w 5 3) 0)
       (λ u. simp (ops, highs, groups, cond, group, low, e, eqb-true (field w 5 3) 0 u) (holds refl))
-      (λ u. simp (ops, highs, groups, cond, group, low, e, u) (undefined-held w addr cond))
+      (λ u. simp (ops, highs, groups, cond, group, low, e, u) (undefined-held w addr))
 
   extract-26 : field w 20 5 ≡ 26 → HeldAt w addr
   unfolding decodeOf groupOf saidOf pageOf standingOf A.tableRow A.media
   extract-26 e =
       by-field w 5 2
-      ((λ u. simp (ops, high-bits, groups, cond, group, low, e, u) (undefined-held w addr cond)) also
-      (λ u. simp (ops, high-bits, groups, cond, group, low, e, u) (undefined-held w addr cond)) also
+      ((λ u. simp (ops, high-bits, groups, cond, group, low, e, u) (undefined-held w addr)) also
+      (λ u. simp (ops, high-bits, groups, cond, group, low, e, u) (undefined-held w addr)) also
       (λ u. simp (ops, high-bits, groups, cond, group, low, e, u) (holds refl)) also
-      (λ u. simp (ops, high-bits, groups, cond, group, low, e, u) (undefined-held w addr cond)) also
+      (λ u. simp (ops, high-bits, groups, cond, group, low, e, u) (undefined-held w addr)) also
       tt)
 
   extract-27 : field w 20 5 ≡ 27 → HeldAt w addr
   unfolding decodeOf groupOf saidOf pageOf standingOf A.tableRow A.media
   extract-27 e =
       by-field w 5 2
-      ((λ u. simp (ops, high-bits, groups, cond, group, low, e, u) (undefined-held w addr cond)) also
-      (λ u. simp (ops, high-bits, groups, cond, group, low, e, u) (undefined-held w addr cond)) also
+      ((λ u. simp (ops, high-bits, groups, cond, group, low, e, u) (undefined-held w addr)) also
+      (λ u. simp (ops, high-bits, groups, cond, group, low, e, u) (undefined-held w addr)) also
       (λ u. simp (ops, high-bits, groups, cond, group, low, e, u) (holds refl)) also
-      (λ u. simp (ops, high-bits, groups, cond, group, low, e, u) (undefined-held w addr cond)) also
+      (λ u. simp (ops, high-bits, groups, cond, group, low, e, u) (undefined-held w addr)) also
       tt)
 
   extract-30 : field w 20 5 ≡ 30 → HeldAt w addr
   unfolding decodeOf groupOf saidOf pageOf standingOf A.tableRow A.media
   extract-30 e =
       by-field w 5 2
-      ((λ u. simp (ops, high-bits, groups, cond, group, low, e, u) (undefined-held w addr cond)) also
-      (λ u. simp (ops, high-bits, groups, cond, group, low, e, u) (undefined-held w addr cond)) also
+      ((λ u. simp (ops, high-bits, groups, cond, group, low, e, u) (undefined-held w addr)) also
+      (λ u. simp (ops, high-bits, groups, cond, group, low, e, u) (undefined-held w addr)) also
       (λ u. simp (ops, high-bits, groups, cond, group, low, e, u) (holds refl)) also
-      (λ u. simp (ops, high-bits, groups, cond, group, low, e, u) (undefined-held w addr cond)) also
+      (λ u. simp (ops, high-bits, groups, cond, group, low, e, u) (undefined-held w addr)) also
       tt)
 
   insert-28 : field w 20 5 ≡ 28 → HeldAt w addr
@@ -215,9 +215,9 @@ module _ (w addr : ℕ) (cond : eqb (field w 28 4) 15 ≡ false) (group : field 
       (λ m. split (ltb (field w 16 5) (field w 7 5))
       (λ k. simp (ops, high-bits, groups, cond, group, low, e, u, m, k) (holds (simp (m, k) (refl, refuses))))
       (λ k. simp (ops, high-bits, groups, cond, group, low, e, u, m, k) (holds (simp (m, k)))))) also
-      (λ u. simp (ops, high-bits, groups, cond, group, low, e, u) (undefined-held w addr cond)) also
-      (λ u. simp (ops, high-bits, groups, cond, group, low, e, u) (undefined-held w addr cond)) also
-      (λ u. simp (ops, high-bits, groups, cond, group, low, e, u) (undefined-held w addr cond)) also
+      (λ u. simp (ops, high-bits, groups, cond, group, low, e, u) (undefined-held w addr)) also
+      (λ u. simp (ops, high-bits, groups, cond, group, low, e, u) (undefined-held w addr)) also
+      (λ u. simp (ops, high-bits, groups, cond, group, low, e, u) (undefined-held w addr)) also
       tt)
 
   insert-29 : field w 20 5 ≡ 29 → HeldAt w addr
@@ -231,21 +231,21 @@ module _ (w addr : ℕ) (cond : eqb (field w 28 4) 15 ≡ false) (group : field 
       (λ m. split (ltb (field w 16 5) (field w 7 5))
       (λ k. simp (ops, high-bits, groups, cond, group, low, e, u, m, k) (holds (simp (m, k) (refl, refuses))))
       (λ k. simp (ops, high-bits, groups, cond, group, low, e, u, m, k) (holds (simp (m, k)))))) also
-      (λ u. simp (ops, high-bits, groups, cond, group, low, e, u) (undefined-held w addr cond)) also
-      (λ u. simp (ops, high-bits, groups, cond, group, low, e, u) (undefined-held w addr cond)) also
-      (λ u. simp (ops, high-bits, groups, cond, group, low, e, u) (undefined-held w addr cond)) also
+      (λ u. simp (ops, high-bits, groups, cond, group, low, e, u) (undefined-held w addr)) also
+      (λ u. simp (ops, high-bits, groups, cond, group, low, e, u) (undefined-held w addr)) also
+      (λ u. simp (ops, high-bits, groups, cond, group, low, e, u) (undefined-held w addr)) also
       tt)
 
   extract-31 : field w 20 5 ≡ 31 → HeldAt w addr
   unfolding decodeOf groupOf saidOf pageOf standingOf A.tableRow A.media
   extract-31 e =
       by-field w 5 3
-      ((λ u. simp (ops, highs, groups, cond, group, low, e, u) (undefined-held w addr cond)) also
-      (λ u. simp (ops, highs, groups, cond, group, low, e, u) (undefined-held w addr cond)) also
+      ((λ u. simp (ops, highs, groups, cond, group, low, e, u) (undefined-held w addr)) also
+      (λ u. simp (ops, highs, groups, cond, group, low, e, u) (undefined-held w addr)) also
       (λ u. simp (ops, highs, groups, cond, group, low, e, u) (holds refl)) also
-      (λ u. simp (ops, highs, groups, cond, group, low, e, u) (undefined-held w addr cond)) also
-      (λ u. simp (ops, highs, groups, cond, group, low, e, u) (undefined-held w addr cond)) also
-      (λ u. simp (ops, highs, groups, cond, group, low, e, u) (undefined-held w addr cond)) also
+      (λ u. simp (ops, highs, groups, cond, group, low, e, u) (undefined-held w addr)) also
+      (λ u. simp (ops, highs, groups, cond, group, low, e, u) (undefined-held w addr)) also
+      (λ u. simp (ops, highs, groups, cond, group, low, e, u) (undefined-held w addr)) also
       (λ u. simp (ops, highs, groups, cond, group, low, e, u) (holds refl)) also
       (λ u. split (eqb (field w 28 4) 14)
       (λ c. simp (ops, highs, groups, cond, group, low, e, u) (holds (simp (c, eqb-true (field w 28 4) 14 c))))
@@ -260,10 +260,10 @@ module _ (w addr : ℕ) (cond : eqb (field w 28 4) 15 ≡ false) (group : field 
       (λ u. simp (ops, highs, groups, cond, group, low, e, u) (named w addr _ refl refl refl)) also
       (λ u. simp (ops, highs, groups, cond, group, low, e, u) (named w addr _ refl refl refl)) also
       (λ u. simp (ops, highs, groups, cond, group, low, e, u) (named w addr _ refl refl refl)) also
-      (λ u. simp (ops, highs, groups, cond, group, low, e, u) (undefined-held w addr cond)) also
-      (λ u. simp (ops, highs, groups, cond, group, low, e, u) (undefined-held w addr cond)) also
-      (λ u. simp (ops, highs, groups, cond, group, low, e, u) (undefined-held w addr cond)) also
-      (λ u. simp (ops, highs, groups, cond, group, low, e, u) (undefined-held w addr cond)) also
+      (λ u. simp (ops, highs, groups, cond, group, low, e, u) (undefined-held w addr)) also
+      (λ u. simp (ops, highs, groups, cond, group, low, e, u) (undefined-held w addr)) also
+      (λ u. simp (ops, highs, groups, cond, group, low, e, u) (undefined-held w addr)) also
+      (λ u. simp (ops, highs, groups, cond, group, low, e, u) (undefined-held w addr)) also
       tt)
 
   multiply-21 : field w 20 5 ≡ 21 → HeldAt w addr
@@ -272,10 +272,10 @@ module _ (w addr : ℕ) (cond : eqb (field w 28 4) 15 ≡ false) (group : field 
       by-field w 5 3
       ((λ u. split (eqb (field w 12 4) 15) (λ d. simp (ops, highs, groups, cond, group, low, e, u, d) (named w addr _ refl refl refl)) (λ d. simp (ops, highs, groups, cond, group, low, e, u, d) (named w addr _ refl refl refl))) also
       (λ u. split (eqb (field w 12 4) 15) (λ d. simp (ops, highs, groups, cond, group, low, e, u, d) (named w addr _ refl refl refl)) (λ d. simp (ops, highs, groups, cond, group, low, e, u, d) (named w addr _ refl refl refl))) also
-      (λ u. simp (ops, highs, groups, cond, group, low, e, u) (undefined-held w addr cond)) also
-      (λ u. simp (ops, highs, groups, cond, group, low, e, u) (undefined-held w addr cond)) also
-      (λ u. simp (ops, highs, groups, cond, group, low, e, u) (undefined-held w addr cond)) also
-      (λ u. simp (ops, highs, groups, cond, group, low, e, u) (undefined-held w addr cond)) also
+      (λ u. simp (ops, highs, groups, cond, group, low, e, u) (undefined-held w addr)) also
+      (λ u. simp (ops, highs, groups, cond, group, low, e, u) (undefined-held w addr)) also
+      (λ u. simp (ops, highs, groups, cond, group, low, e, u) (undefined-held w addr)) also
+      (λ u. simp (ops, highs, groups, cond, group, low, e, u) (undefined-held w addr)) also
       (λ u. simp (ops, highs, groups, cond, group, low, e, u) (named w addr _ refl refl refl)) also
       (λ u. simp (ops, highs, groups, cond, group, low, e, u) (named w addr _ refl refl refl)) also
       tt)
@@ -285,13 +285,13 @@ module _ (w addr : ℕ) (cond : eqb (field w 28 4) 15 ≡ false) (group : field 
   differences e =
       by-field w 5 3
       ((λ u. split (eqb (field w 12 4) 15) (λ d. simp (ops, highs, groups, cond, group, low, e, u, d) (named w addr _ refl refl refl)) (λ d. simp (ops, highs, groups, cond, group, low, e, u, d) (named w addr _ refl refl refl))) also
-      (λ u. simp (ops, highs, groups, cond, group, low, e, u) (undefined-held w addr cond)) also
-      (λ u. simp (ops, highs, groups, cond, group, low, e, u) (undefined-held w addr cond)) also
-      (λ u. simp (ops, highs, groups, cond, group, low, e, u) (undefined-held w addr cond)) also
-      (λ u. simp (ops, highs, groups, cond, group, low, e, u) (undefined-held w addr cond)) also
-      (λ u. simp (ops, highs, groups, cond, group, low, e, u) (undefined-held w addr cond)) also
-      (λ u. simp (ops, highs, groups, cond, group, low, e, u) (undefined-held w addr cond)) also
-      (λ u. simp (ops, highs, groups, cond, group, low, e, u) (undefined-held w addr cond)) also
+      (λ u. simp (ops, highs, groups, cond, group, low, e, u) (undefined-held w addr)) also
+      (λ u. simp (ops, highs, groups, cond, group, low, e, u) (undefined-held w addr)) also
+      (λ u. simp (ops, highs, groups, cond, group, low, e, u) (undefined-held w addr)) also
+      (λ u. simp (ops, highs, groups, cond, group, low, e, u) (undefined-held w addr)) also
+      (λ u. simp (ops, highs, groups, cond, group, low, e, u) (undefined-held w addr)) also
+      (λ u. simp (ops, highs, groups, cond, group, low, e, u) (undefined-held w addr)) also
+      (λ u. simp (ops, highs, groups, cond, group, low, e, u) (undefined-held w addr)) also
       tt)
 
   -- the rows that are all named and not read stand by the table's shape
@@ -299,32 +299,32 @@ module _ (w addr : ℕ) (cond : eqb (field w 28 4) 15 ≡ false) (group : field 
   unfolding decodeOf groupOf saidOf pageOf standingOf A.tableRow A.media A.parallelSigned A.parallelUnsigned A.packing A.signedMultiply
   media =
       by-field w 20 5
-      ((λ e. simp (ops, highs, groups, cond, group, low, e) (undefined-held w addr cond)) also
-      (λ e. simp (ops, highs, groups, cond, group, low, e) (search (held-pick, named w addr, undefined-held w addr cond) depth 40)) also
-      (λ e. simp (ops, highs, groups, cond, group, low, e) (search (held-pick, named w addr, undefined-held w addr cond) depth 40)) also
-      (λ e. simp (ops, highs, groups, cond, group, low, e) (search (held-pick, named w addr, undefined-held w addr cond) depth 40)) also
-      (λ e. simp (ops, highs, groups, cond, group, low, e) (undefined-held w addr cond)) also
-      (λ e. simp (ops, highs, groups, cond, group, low, e) (search (held-pick, named w addr, undefined-held w addr cond) depth 40)) also
-      (λ e. simp (ops, highs, groups, cond, group, low, e) (search (held-pick, named w addr, undefined-held w addr cond) depth 40)) also
-      (λ e. simp (ops, highs, groups, cond, group, low, e) (search (held-pick, named w addr, undefined-held w addr cond) depth 40)) also
+      ((λ e. simp (ops, highs, groups, cond, group, low, e) (undefined-held w addr)) also
+      (λ e. simp (ops, highs, groups, cond, group, low, e) (search (held-pick, named w addr, undefined-held w addr) depth 40)) also
+      (λ e. simp (ops, highs, groups, cond, group, low, e) (search (held-pick, named w addr, undefined-held w addr) depth 40)) also
+      (λ e. simp (ops, highs, groups, cond, group, low, e) (search (held-pick, named w addr, undefined-held w addr) depth 40)) also
+      (λ e. simp (ops, highs, groups, cond, group, low, e) (undefined-held w addr)) also
+      (λ e. simp (ops, highs, groups, cond, group, low, e) (search (held-pick, named w addr, undefined-held w addr) depth 40)) also
+      (λ e. simp (ops, highs, groups, cond, group, low, e) (search (held-pick, named w addr, undefined-held w addr) depth 40)) also
+      (λ e. simp (ops, highs, groups, cond, group, low, e) (search (held-pick, named w addr, undefined-held w addr) depth 40)) also
       extend-8 also
-      (λ e. simp (ops, highs, groups, cond, group, low, e) (undefined-held w addr cond)) also
+      (λ e. simp (ops, highs, groups, cond, group, low, e) (undefined-held w addr)) also
       saturate-10 also
       saturate-11 also
       extend-12 also
-      (λ e. simp (ops, highs, groups, cond, group, low, e) (undefined-held w addr cond)) also
+      (λ e. simp (ops, highs, groups, cond, group, low, e) (undefined-held w addr)) also
       saturate-14 also
       saturate-15 also
-      (λ e. simp (ops, highs, groups, cond, group, low, e) (search (held-pick, named w addr, undefined-held w addr cond) depth 40)) also
+      (λ e. simp (ops, highs, groups, cond, group, low, e) (search (held-pick, named w addr, undefined-held w addr) depth 40)) also
       divide-17 also
-      (λ e. simp (ops, highs, groups, cond, group, low, e) (search (held-pick, named w addr, undefined-held w addr cond) depth 40)) also
+      (λ e. simp (ops, highs, groups, cond, group, low, e) (search (held-pick, named w addr, undefined-held w addr) depth 40)) also
       divide-19 also
       multiply-20 also
       multiply-21 also
-      (λ e. simp (ops, highs, groups, cond, group, low, e) (undefined-held w addr cond)) also
-      (λ e. simp (ops, highs, groups, cond, group, low, e) (undefined-held w addr cond)) also
+      (λ e. simp (ops, highs, groups, cond, group, low, e) (undefined-held w addr)) also
+      (λ e. simp (ops, highs, groups, cond, group, low, e) (undefined-held w addr)) also
       differences also
-      (λ e. simp (ops, highs, groups, cond, group, low, e) (undefined-held w addr cond)) also
+      (λ e. simp (ops, highs, groups, cond, group, low, e) (undefined-held w addr)) also
       extract-26 also
       extract-27 also
       insert-28 also

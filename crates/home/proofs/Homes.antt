@@ -10,21 +10,17 @@ use Rattle.word.specs.Field.{field, clear, splits}
 use Rattle.dp.specs.DpImm.{hintSlot}
 use Rattle.a32.specs.Decode.{controlOf}
 use Rattle.home.specs.Table.{ignored}
-use Rattle.home.specs.Home.{clearAll, controlRow, moveRow, dpRegRow, extraRow, plainRow, dpMiscRow, dpImmRow, mediaRow, rowOf, raisesOf, raised, homeOf}
+use Rattle.home.specs.Home.{clearAll, controlRow, moveRow, dpRegRow, extraRow, plainRow, dpMiscRow, dpImmRow, mediaRow, barrierRow, rowOf, raisesOf, raised, homeOf}
 use Rattle.home.proofs.Leads.{bit-cases}
 
 module _ (w : ℕ) where
-  pub blx-home : field w 28 4 ≡ 15 → field w 25 3 ≡ 5 → homeOf w ≡ w
-  unfolding homeOf rowOf raisesOf
-  blx-home c g = simp (c, g, fails)
-
-  preload-row : field w 28 4 ≡ 15 → eqb (field w 25 3) 5 ≡ false → clearAll (ignored (rowOf w)) w ≡ clear w 20 2
+  second-row : field w 28 4 ≡ 15 → rowOf w ≡ barrierRow w
   unfolding rowOf
-  preload-row c g = simp (c, g)
+  second-row c = simp c
 
-  pub preload-home : field w 28 4 ≡ 15 → eqb (field w 25 3) 5 ≡ false → homeOf w ≡ raised (raisesOf w) (clear w 20 2)
+  pub second-home : field w 28 4 ≡ 15 → homeOf w ≡ raised (raisesOf w) (clearAll (ignored (barrierRow w)) w)
   unfolding homeOf
-  preload-home c g = ap (raised (raisesOf w)) (preload-row c g)
+  second-home c = ap (λ (row : ℕ). raised (raisesOf w) (clearAll (ignored row) w)) (second-row c)
 
   module _ (c : eqb (field w 28 4) 15 ≡ false) where
     module _ (g : field w 25 3 ≡ 0) where
@@ -110,6 +106,10 @@ module _ (w : ℕ) where
   unfolding mediaRow
   media-below = simp bounds
 
+  pub barrier-below : ltb (barrierRow w) 17 ≡ true
+  unfolding barrierRow
+  barrier-below = simp bounds
+
 -- a row below 15 is below 17
 pub fewer : (row : ℕ) → ltb row 15 ≡ true → ltb row 17 ≡ true
 fewer row below = lt-ltb row 17 (omega (arith, ltb-true row 15 below))
@@ -155,4 +155,5 @@ row-below w =
       fewer (extraRow w) (extra-below w),
       fewer (dpImmRow w) (dp-imm-below w),
       media-below w,
+      barrier-below w,
     )

@@ -19,11 +19,11 @@ use Rattle.ldst.specs.Ldst.{ldstOf}
 use Rattle.media.specs.Media.{mediaOf}
 use Rattle.transfer.specs.Block.{blockOf}
 use Rattle.transfer.specs.Branch.{branchOf}
-use Rattle.transfer.specs.Unconditional.{unconditionalOf, blxOf}
+use Rattle.transfer.specs.Unconditional.{barrierSlot, preloadSlot, unconditionalOf}
 use Rattle.insn.specs.Answer.{accepted, refused}
 use Rattle.a32.specs.Decode.{decodeOf, controlOf, extraOf}
 use Rattle.home.specs.Table.{ignored}
-use Rattle.home.specs.Home.{clearAll, controlRow, dpRegRow, extraRow, dpImmRow, mediaRow, rowOf, raisesOf, raised, homeOf}
+use Rattle.home.specs.Home.{clearAll, controlRow, dpRegRow, extraRow, dpImmRow, mediaRow, barrierRow, rowOf, raisesOf, raised, homeOf}
 use Rattle.parts.specs.Parts.{at, isAddress}
 use Rattle.home.specs.Word.{wordOf}
 use Rattle.home.specs.WordMisc.{miscWord}
@@ -35,7 +35,7 @@ use Rattle.home.proofs.BackExtra.{extra-keeps, extra-leads}
 use Rattle.home.proofs.BackLdst.{ldst-keeps, ldst-leads}
 use Rattle.home.proofs.BackMedia.{media-keeps, media-leads}
 use Rattle.home.proofs.BackMisc.{misc-keeps, misc-leads, misc-second}
-use Rattle.home.proofs.BackUnconditional.{preload-keeps, preload-leads}
+use Rattle.home.proofs.BackUnconditional.{barrier-not-preload, no-barrier, no-barrier-row, no-preload-stays, preload-keeps, preload-leads, barrier-keeps, barrier-leads}
 use Rattle.home.proofs.Homes as H
 use Rattle.home.proofs.KeepsDp.{dp-reg-keeps, dp-imm-keeps}
 use Rattle.home.proofs.Leads.{apart, Leads, bit-cases, never, refusal, raised-above, raised-below, raised-small}
@@ -61,26 +61,44 @@ module _ (w addr : ℕ) (bound : w < 2 ^ 32) where
   )
 
   -- condition 15
-  second : field w 28 4 ≡ 15 → Settled
-  second c =
-      by-test (eqb (field w 25 3) 5)
-      (λ e. blx (eqb-true _ 5 e))
-      (λ g.
-      settle (raised (raisesOf w) (clear w 20 2)) (unconditionalOf w addr) (H.preload-home w c g) (Ways.to-unconditional w addr c)
-      (Ways.to-unconditional (raised (raisesOf w) (clear w 20 2)) addr still ∙ preload-keeps w addr c g)
-      (by-leads 125 128 _ (unconditionalOf w addr) (preload-leads w addr bound c g) (λ i plain. Ways.named-preload i plain 128)))
-    where
-      still : field (raised (raisesOf w) (clear w 20 2)) 28 4 ≡ 15
-      still = raised-above (raisesOf w) (clear w 20 2) 28 4 refl ∙ simp (apart, c)
+  module _ (c : field w 28 4 ≡ 15) where
+    -- a word that goes the same way as its home word
+    unconditional : (h : ℕ) → homeOf w ≡ h → field h 28 4 ≡ 15 → unconditionalOf h addr ≡ unconditionalOf w addr
+        → ((unconditionalOf w addr) .refusal ≡ 0 → wordOf ((unconditionalOf w addr) .insn) ≡ h) → Settled
+    unconditional h is still keeps back =
+        settle h (unconditionalOf w addr) is (Ways.to-unconditional w addr c) (Ways.to-unconditional h addr still ∙ keeps) back
 
-      blx : field w 25 3 ≡ 5 → Settled
-      blx g = settle w (blxOf w addr) (H.blx-home w c g) here here back
-        where
-          here : decodeOf w addr ≡ blxOf w addr
-          here = Ways.to-unconditional w addr c ∙ simp g
+    barrier : barrierSlot w ≡ true → Settled
+    unfolding barrierSlot
+    barrier slot =
+        let is-barrier : field w 8 20 ≡ 0x57ff0 = eqb-true _ 0x57ff0 slot in
+        unconditional (clearAll (ignored (barrierRow w)) w)
+        (H.second-home w c ∙ simp (no-preload-stays w c (barrier-not-preload w is-barrier)))
+        (keeps-cond (barrierRow w) w (H.barrier-below w) ∙ c)
+        (barrier-keeps w addr is-barrier)
+        (by-leads 129 132 _ (unconditionalOf w addr) (barrier-leads w addr is-barrier bound) (λ i plain. Ways.named-barrier i plain 132))
 
-          back : (blxOf w addr) .refusal ≡ 0 → wordOf ((blxOf w addr) .insn) ≡ w
-          back ok = Ways.named-blx _ (blx-leads w addr bound g c .1) (blx-leads w addr bound g c .2) ∙ blx-leads w addr bound g c .0
+    preload : preloadSlot w ≡ true → Settled
+    preload slot =
+        unconditional (raised (raisesOf w) w)
+        (H.second-home w c ∙ ap (raised (raisesOf w)) (no-barrier-row w (no-barrier w addr c slot)))
+        (raised-above (raisesOf w) w 28 4 refl ∙ c)
+        (preload-keeps w addr c slot)
+        (by-leads 125 128 _ (unconditionalOf w addr) (preload-leads w addr c slot bound) Ways.named-preload)
+
+    -- the others ignore nothing
+    rest : barrierSlot w ≡ false → preloadSlot w ≡ false → Settled
+    rest nb np =
+        unconditional w (H.second-home w c ∙ simp (no-preload-stays w c np, no-barrier-row w nb)) c refl
+        (λ ok. by-test (eqb (field w 25 3) 5) (λ e. blx (eqb-true _ 5 e)) (λ g. refusal (simp (g, nb, np) at ok)))
+      where
+        blx : field w 25 3 ≡ 5 → wordOf ((unconditionalOf w addr) .insn) ≡ w
+        blx g =
+            let leads = blx-leads w addr bound g c in
+            simp g (Ways.named-blx _ (leads .1) (leads .2) ∙ leads .0)
+
+    second : Settled
+    second = by-test (barrierSlot w) barrier (λ nb. by-test (preloadSlot w) preload (rest nb))
 
   -- a condition below 15, by 27:25
   module _ (c : eqb (field w 28 4) 15 ≡ false) where

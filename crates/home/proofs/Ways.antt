@@ -26,7 +26,7 @@ use Rattle.home.specs.WordMisc.{miscWord}
 use Rattle.home.specs.WordExtra.{extraWord}
 use Rattle.home.specs.WordLdst.{ldstWord}
 use Rattle.home.specs.WordMedia.{mediaWord}
-use Rattle.home.specs.WordTransfer.{blockWord, branchWord, blxWord, preloadWord}
+use Rattle.home.specs.WordTransfer.{blockWord, branchWord, blxWord, preloadWord, barrierWord}
 use Rattle.home.proofs.Leads.{bit-cases}
 
 -- 27:26 from 27:25
@@ -135,9 +135,13 @@ module _ (i : Insn) (plain : isAddress (at i 0) ≡ false) where
   unfolding wordOf
   named-block is = simp (plain, after 115 124 is, within 115 124 is)
 
-  pub named-preload : (hi : ℕ) → inside 125 hi (i .name) ≡ true → wordOf i ≡ preloadWord i
+  pub named-preload : inside 125 128 (i .name) ≡ true → wordOf i ≡ preloadWord i
   unfolding wordOf
-  named-preload hi is = simp (plain, after 125 hi is)
+  named-preload is = simp (plain, after 125 128 is, within 125 128 is)
+
+  pub named-barrier : (hi : ℕ) → inside 129 hi (i .name) ≡ true → wordOf i ≡ barrierWord i
+  unfolding wordOf
+  named-barrier hi is = simp (plain, after 129 hi is)
 
 module _ (i : Insn) (goes : isAddress (at i 0) ≡ true) where
   pub named-address : wordOf i ≡ pick (eqb (i .name) BLX) (blxWord i) (branchWord i)

@@ -1,5 +1,5 @@
 -- The home word of a word (01, "Home words").
-use mathlib.Core.Bool.{Bool, not}
+use mathlib.Core.Bool.{Bool}
 use mathlib.Core.List.{List, [], _∷_}
 use Prim.Native.Nat.{ℕ, _*_, _/_, _%_, _^_}
 use lib.Dec.{eqb}
@@ -8,8 +8,9 @@ use Rattle.word.specs.Choice.{pick, both}
 use Rattle.word.specs.Field.{field, clear, put}
 use Rattle.a32.specs.Decode.{controlOf, decodeOf}
 use Rattle.dp.specs.DpImm.{hintSlot}
+use Rattle.transfer.specs.Unconditional.{barrierSlot, preloadSlot}
 use Rattle.home.specs.declared.Homed.{Homed}
-use Rattle.home.specs.Table.{Ignored, ignored, laid, ALL-READ, MOVES, COMPARES, MRS-ROW, MSR-REGISTER, MSR-IMMEDIATE, EXCHANGES, CLZ-ROW, SATURATING, EXCLUSIVE-STORES, EXCLUSIVE-LOADS, EXTRA-INDEX, HINTS, MUL-ROW, DIVIDES, SATURATES, PRELOADS}
+use Rattle.home.specs.Table.{Ignored, ignored, laid, ALL-READ, MOVES, COMPARES, MRS-ROW, MSR-REGISTER, MSR-IMMEDIATE, EXCHANGES, CLZ-ROW, SATURATING, EXCLUSIVE-STORES, EXCLUSIVE-LOADS, EXTRA-INDEX, HINTS, MUL-ROW, DIVIDES, SATURATES, CLREX-ROW}
 
 -- one fold that clears a row's fields
 abbrev pub clearAll : List Ignored → ℕ → ℕ
@@ -87,9 +88,13 @@ mediaRow w =
     (pick (eqb (field w 21 4) 5) SATURATES (pick (eqb (field w 21 4) 7) SATURATES ALL-READ))
     ALL-READ))
 
+-- clrex, of the barriers, by 7:4
+unfoldable pub barrierRow : ℕ → ℕ
+barrierRow w = pick (barrierSlot w) (pick (eqb (field w 4 4) 1) CLREX-ROW ALL-READ) ALL-READ
+
 unfoldable pub rowOf : ℕ → ℕ
 rowOf w =
-    pick (eqb (field w 28 4) 15) (pick (eqb (field w 25 3) 5) ALL-READ PRELOADS)
+    pick (eqb (field w 28 4) 15) (barrierRow w)
     (pick (eqb (field w 25 3) 0) (dpMiscRow w)
     (pick (eqb (field w 25 3) 1) (dpImmRow w)
     (pick (eqb (field w 25 3) 3) (pick (eqb (field w 4 1) 0) ALL-READ (mediaRow w)) ALL-READ)))
@@ -98,7 +103,7 @@ rowOf w =
 abbrev pub offsetForm : ℕ → Bool
 offsetForm w =
     pick (eqb (field w 28 4) 15)
-    (not (eqb (field w 25 3) 5))
+    (preloadSlot w)
     (both (eqb (field w 25 3) 2) (both (eqb (field w 24 1) 1) (eqb (field w 21 1) 0)))
 
 -- "In addition bit 23 is set in load/store (not extra) immediate offset mode and preloads when 11:0 is 0."

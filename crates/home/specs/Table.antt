@@ -1,4 +1,4 @@
--- 01, "Home words", as a table: the rows that ignore bits, and the fields that each ignores.
+-- 01, "Home words", and 02, P1, as a table: the rows that ignore bits, and the fields that each ignores.
 use mathlib.Core.List.{List, [], _∷_}
 use Prim.Native.Nat.{ℕ, _+_, _-_}
 use lib.ListN.{getD}
@@ -61,8 +61,8 @@ DIVIDES = 14
 abbrev pub SATURATES : ℕ
 SATURATES = 15
 
-abbrev pub PRELOADS : ℕ
-PRELOADS = 16
+abbrev pub CLREX-ROW : ℕ
+CLREX-ROW = 16
 
 abbrev pub table : List (List Ignored)
 table =
@@ -93,8 +93,8 @@ table =
     (bits 15 12 ∷ []) ∷
     -- "ssat, usat: 20."
     (bits 20 20 ∷ []) ∷
-    -- "Preloads: 21:20."
-    (bits 21 20 ∷ []) ∷
+    -- 02, P1: "drops preloads' 21:20 and gains clrex, 3:0"
+    (bits 3 0 ∷ []) ∷
     []
 
 abbrev pub ignored : ℕ → List Ignored
@@ -119,5 +119,5 @@ laid =
     0x0c04 ∷
     0x0c04 ∷
     0x1401 ∷
-    0x1402 ∷
+    0x0004 ∷
     []

@@ -3,7 +3,7 @@
 use Prim.Native.Nat.{ℕ}
 use lib.Dec.{eqb, leb}
 use Rattle.word.specs.Choice.{pick, both}
-use Rattle.insn.specs.Name.{RRX, BKPT, LDRSH, SEV, STRBT, UXTAH, PUSH, MSR, BLX}
+use Rattle.insn.specs.Name.{RRX, BKPT, LDRSH, SEV, STRBT, UXTAH, PUSH, PLDW, MSR, BLX}
 use Rattle.insn.specs.declared.Insn.{Insn}
 use Rattle.parts.specs.Parts.{at, isAddress, isCount}
 use Rattle.home.specs.WordDp.{dpWord, wideWord, msrImmediateWord}
@@ -11,7 +11,7 @@ use Rattle.home.specs.WordMisc.{miscWord}
 use Rattle.home.specs.WordExtra.{extraWord}
 use Rattle.home.specs.WordLdst.{ldstWord}
 use Rattle.home.specs.WordMedia.{mediaWord}
-use Rattle.home.specs.WordTransfer.{blockWord, branchWord, blxWord, preloadWord}
+use Rattle.home.specs.WordTransfer.{blockWord, branchWord, blxWord, preloadWord, barrierWord}
 
 -- msr has one form in two groups
 abbrev pub statusWord : Insn → ℕ
@@ -27,4 +27,5 @@ wordOf i =
     (pick (leb (i .name) SEV) (wideWord i)
     (pick (leb (i .name) STRBT) (ldstWord i)
     (pick (leb (i .name) UXTAH) (mediaWord i)
-    (pick (leb (i .name) PUSH) (blockWord i) (preloadWord i))))))))
+    (pick (leb (i .name) PUSH) (blockWord i)
+    (pick (leb (i .name) PLDW) (preloadWord i) (barrierWord i)))))))))

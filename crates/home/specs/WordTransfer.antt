@@ -1,10 +1,11 @@
--- The word of a block transfer, a branch, an unconditional blx or a preload, from its answer.
+-- The word of a block transfer, a branch, an unconditional blx, a preload or a barrier, from its answer.
 use mathlib.Core.List.{List, [], _∷_}
 use Prim.Native.Nat.{ℕ, _+_, _-_, _/_, _%_, _^_}
 use lib.Dec.{eqb, ltb}
+use lib.ListN.{getD}
 use Rattle.word.specs.Choice.{pick}
 use Rattle.word.specs.Layout.{join}
-use Rattle.insn.specs.Name.{LDMDA, POP, PUSH, BL, PLDW}
+use Rattle.insn.specs.Name.{LDMDA, POP, PUSH, BL, PLD, CLREX}
 use Rattle.insn.specs.declared.Insn.{Insn}
 use Rattle.parts.specs.Parts.{at, number, isWriteBack, up}
 
@@ -52,10 +53,22 @@ branchWord i = laidBranch i (pick (eqb (i .name) BL) 1 0)
 abbrev pub blxWord : Insn → ℕ
 blxWord i = laidBranch i (offset i / 2 % 2)
 
--- displacement 1111 rn 00 W U 0101 cond, from bit 0 up
+-- displacement 1111 rn 01 R U 0101 cond, from bit 0 up
 abbrev pub preloadLayout : List ℕ
 preloadLayout = 12 ∷ 4 ∷ 4 ∷ 2 ∷ 1 ∷ 1 ∷ 4 ∷ 4 ∷ []
 
 abbrev pub preloadWord : Insn → ℕ
 preloadWord i =
-    join preloadLayout (at i 0 .value ∷ 15 ∷ at i 0 .reg ∷ 0 ∷ pick (eqb (i .name) PLDW) 1 0 ∷ up (at i 0 .negative) ∷ 5 ∷ i .cond .0 ∷ [])
+    join preloadLayout (at i 0 .value ∷ 15 ∷ at i 0 .reg ∷ 1 ∷ pick (eqb (i .name) PLD) 1 0 ∷ up (at i 0 .negative) ∷ 5 ∷ i .cond .0 ∷ [])
+
+-- option 7:4 0101 0111 1111 1111 0000 cond, from bit 0 up
+abbrev pub barrierLayout : List ℕ
+barrierLayout = 4 ∷ 4 ∷ 20 ∷ 4 ∷ []
+
+-- 7:4 of the names clrex .. isb
+abbrev pub barriers : List ℕ
+barriers = 1 ∷ 4 ∷ 5 ∷ 6 ∷ []
+
+abbrev pub barrierWord : Insn → ℕ
+barrierWord i =
+    join barrierLayout (at i 0 .amount ∷ getD barriers (i .name - CLREX) 0 ∷ 0x57ff0 ∷ i .cond .0 ∷ [])

@@ -1,6 +1,7 @@
 //! Home words: of the words that have one answer, the one with the ignored bits at zero.
 use crate::row::row;
 use a32::decode;
+use transfer::unconditional::is_preload;
 use word::bit;
 use word::bits;
 ghost use mathlib.Core.Path.{_≡_};
@@ -64,7 +65,7 @@ fn is_offset(w: u32) -> bool
     let p = bit(w, 24);
     let wb = bit(w, 21);
     if cond == 15 {
-        return op != 0b101;
+        return is_preload(w);
     }
     if op == 0b010 {
         if p == 1 { wb == 0 } else { false }
@@ -110,7 +111,7 @@ const IGNORED: [u64; 17] = [
     0x0c04, // mul
     0x0c04, // sdiv, udiv
     0x1401, // ssat, usat
-    0x1402, // preloads
+    0x0004, // clrex
 ];
 
 /// Field `n` of the row, cleared.

@@ -1,10 +1,11 @@
 //! The row of the table of ignored bits that a word belongs to, group by group.
 use a32::is_control;
 use dp::dp_imm::is_hint;
+use transfer::unconditional::is_barrier;
 use word::bit;
 use word::bits;
 ghost use mathlib.Core.Path.{_≡_};
-ghost use Rattle.home.specs.Home.{controlRow, moveRow, dpRegRow, extraRow, plainRow, dpMiscRow, dpImmRow, mediaRow, rowOf, exchangeRow, statusRow, exclusiveRow, multiplyRow, indexRow};
+ghost use Rattle.home.specs.Home.{controlRow, moveRow, dpRegRow, extraRow, plainRow, dpMiscRow, dpImmRow, mediaRow, barrierRow, rowOf, exchangeRow, statusRow, exclusiveRow, multiplyRow, indexRow};
 
 const ALL_READ: usize = 0;
 
@@ -38,7 +39,7 @@ const DIVIDES: usize = 14;
 
 const SATURATES: usize = 15;
 
-const PRELOADS: usize = 16;
+const CLREX: usize = 16;
 
 pub fn row(w: u32) -> usize
     ensures { λ r. ⌜ r ≡ rowOf w ⌝ }
@@ -47,10 +48,7 @@ pub fn row(w: u32) -> usize
     let op = bits(w, 27, 25);
     let by = bit(w, 4);
     if cond == 15 {
-        if op == 0b101 {
-            return ALL_READ;
-        }
-        return PRELOADS;
+        return barrier_row(w);
     }
     match op {
         0b000 => dp_misc_row(w),
@@ -221,5 +219,16 @@ fn media_row(w: u32) -> usize
                 ALL_READ
             }
         }
+    }
+}
+
+fn barrier_row(w: u32) -> usize
+    ensures { λ r. ⌜ r ≡ barrierRow w ⌝ }
+{
+    let op = bits(w, 7, 4);
+    if is_barrier(w) {
+        if op == 0b0001 { CLREX } else { ALL_READ }
+    } else {
+        ALL_READ
     }
 }

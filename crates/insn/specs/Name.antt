@@ -1,4 +1,4 @@
--- The names by number: the 129 roots, in the order in which a32.rs first spells them.
+-- The names by number: the 129 roots that a32.rs answers, in the order in which it first spells them, then the barriers.
 use Prim.Native.Nat.{ℕ}
 
 -- DP and DP_S: the data processing names, plain and setting the flags
@@ -399,3 +399,20 @@ PLD = 127
 
 abbrev pub PLDW : ℕ
 PLDW = 128
+
+-- unconditional: the barriers
+abbrev pub CLREX : ℕ
+CLREX = 129
+
+abbrev pub DSB : ℕ
+DSB = 130
+
+abbrev pub DMB : ℕ
+DMB = 131
+
+abbrev pub ISB : ℕ
+ISB = 132
+
+-- how many there are
+abbrev pub NAMES : ℕ
+NAMES = 133

@@ -165,6 +165,8 @@ pub enum Operand {
     Address(u32),
     /// A memory reference.
     Memory(Mem),
+    /// The option of a barrier, bits 3:0.
+    Option(u8),
 }
 
 impl Operand {
@@ -186,6 +188,7 @@ impl Operand {
             Operand::List(_) => 11,
             Operand::Address(_) => 12,
             Operand::Memory(_) => 13,
+            Operand::Option(_) => 14,
         }
     }
 }

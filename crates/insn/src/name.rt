@@ -1,4 +1,4 @@
-//! The names by number: the 129 roots, in the order in which a32.rs first spells them.
+//! The names by number: the 129 roots that a32.rs answers, in the order in which it first spells them, then the barriers.
 
 // DP and DP_S: the data processing names, plain and setting the flags.
 pub const AND: u16 = 0;
@@ -269,3 +269,12 @@ pub const B: u16 = 126;
 pub const PLD: u16 = 127;
 
 pub const PLDW: u16 = 128;
+
+// unconditional: the barriers.
+pub const CLREX: u16 = 129;
+
+pub const DSB: u16 = 130;
+
+pub const DMB: u16 = 131;
+
+pub const ISB: u16 = 132;

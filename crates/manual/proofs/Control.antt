@@ -12,6 +12,7 @@ use Rattle.manual.specs.A5 as A
 use Rattle.manual.specs.A8.{saidOf, pageOf}
 use Rattle.manual.specs.Departures.{standingOf}
 use Rattle.manual.proofs.Fields.{HeldAt, holds, ops, controls, lows, groups, bits, rn-bits, by-field, split, conditions, _also_}
+use Rattle.manual.proofs.Pages.{undefined-held}
 
 module _ (w addr : ℕ) (cond : eqb (field w 28 4) 15 ≡ false) (group : field w 25 3 ≡ 0) where
   -- 7:4 = 1001, by 24:20
@@ -24,9 +25,9 @@ module _ (w addr : ℕ) (cond : eqb (field w 28 4) 15 ≡ false) (group : field 
       (λ e. simp (ops, lows, groups, cond, group, low, e) (holds (simp (ops, bits, e)))) also
       (λ e. simp (ops, lows, groups, cond, group, low, e) (holds (simp (ops, bits, e)))) also
       (λ e. simp (ops, lows, groups, cond, group, low, e) (holds refl)) also
-      (λ e. simp (ops, lows, groups, cond, group, low, e) (holds (simp cond))) also
+      (λ e. simp (ops, lows, groups, cond, group, low, e) (undefined-held w addr)) also
       (λ e. simp (ops, lows, groups, cond, group, low, e) (holds refl)) also
-      (λ e. simp (ops, lows, groups, cond, group, low, e) (holds (simp cond))) also
+      (λ e. simp (ops, lows, groups, cond, group, low, e) (undefined-held w addr)) also
       (λ e. simp (ops, lows, groups, cond, group, low, e) (holds (simp (ops, bits, e)))) also
       (λ e. simp (ops, lows, groups, cond, group, low, e) (holds (simp (ops, bits, e)))) also
       (λ e. simp (ops, lows, groups, cond, group, low, e) (holds (simp (ops, bits, e)))) also
@@ -36,13 +37,13 @@ module _ (w addr : ℕ) (cond : eqb (field w 28 4) 15 ≡ false) (group : field 
       (λ e. simp (ops, lows, groups, cond, group, low, e) (holds (simp (ops, bits, e)))) also
       (λ e. simp (ops, lows, groups, cond, group, low, e) (holds (simp (ops, bits, e)))) also
       (λ e. simp (ops, lows, groups, cond, group, low, e) (holds refl)) also
-      (λ e. simp (ops, lows, groups, cond, group, low, e) (holds (simp cond))) also
-      (λ e. simp (ops, lows, groups, cond, group, low, e) (holds (simp cond))) also
-      (λ e. simp (ops, lows, groups, cond, group, low, e) (holds (simp cond))) also
+      (λ e. simp (ops, lows, groups, cond, group, low, e) (undefined-held w addr)) also
+      (λ e. simp (ops, lows, groups, cond, group, low, e) (undefined-held w addr)) also
+      (λ e. simp (ops, lows, groups, cond, group, low, e) (undefined-held w addr)) also
       (λ e. simp (ops, lows, groups, cond, group, low, e) (holds refl)) also
-      (λ e. simp (ops, lows, groups, cond, group, low, e) (holds (simp cond))) also
-      (λ e. simp (ops, lows, groups, cond, group, low, e) (holds (simp cond))) also
-      (λ e. simp (ops, lows, groups, cond, group, low, e) (holds (simp cond))) also
+      (λ e. simp (ops, lows, groups, cond, group, low, e) (undefined-held w addr)) also
+      (λ e. simp (ops, lows, groups, cond, group, low, e) (undefined-held w addr)) also
+      (λ e. simp (ops, lows, groups, cond, group, low, e) (undefined-held w addr)) also
       (λ e. simp (ops, lows, groups, cond, group, low, e) (holds refl)) also
       (λ e. simp (ops, lows, groups, cond, group, low, e) (holds refl)) also
       (λ e. simp (ops, lows, groups, cond, group, low, e) (holds refl)) also
@@ -78,37 +79,37 @@ module _ (w addr : ℕ) (cond : eqb (field w 28 4) 15 ≡ false) (group : field 
     unfolding decodeOf groupOf dpMiscOf D.plainOf controlOf saidOf pageOf standingOf A.tableRow A.dataProcessing A.miscellaneous
     exchange-and-zeros low =
         by-field w 21 2
-        ((λ e. simp (controls, lows, groups, cond, group, op, s, low, e) (holds (simp cond))) also
+        ((λ e. simp (controls, lows, groups, cond, group, op, s, low, e) (undefined-held w addr)) also
         (λ e. simp (controls, lows, groups, cond, group, op, s, low, e) (holds refl)) also
-        (λ e. simp (controls, lows, groups, cond, group, op, s, low, e) (holds (simp cond))) also
+        (λ e. simp (controls, lows, groups, cond, group, op, s, low, e) (undefined-held w addr)) also
         (λ e. simp (controls, lows, groups, cond, group, op, s, low, e) (holds refl)) also tt)
 
     pub jazelle : field w 4 4 ≡ 2 → HeldAt w addr
     unfolding decodeOf groupOf dpMiscOf D.plainOf controlOf saidOf pageOf standingOf A.tableRow A.dataProcessing A.miscellaneous
     jazelle low =
         by-field w 21 2
-        ((λ e. simp (controls, lows, groups, cond, group, op, s, low, e) (holds (simp cond))) also
+        ((λ e. simp (controls, lows, groups, cond, group, op, s, low, e) (undefined-held w addr)) also
         (λ e. simp (controls, lows, groups, cond, group, op, s, low, e) (holds refl)) also
-        (λ e. simp (controls, lows, groups, cond, group, op, s, low, e) (holds (simp cond))) also
-        (λ e. simp (controls, lows, groups, cond, group, op, s, low, e) (holds (simp cond))) also tt)
+        (λ e. simp (controls, lows, groups, cond, group, op, s, low, e) (undefined-held w addr)) also
+        (λ e. simp (controls, lows, groups, cond, group, op, s, low, e) (undefined-held w addr)) also tt)
 
     pub exchange-link : field w 4 4 ≡ 3 → HeldAt w addr
     unfolding decodeOf groupOf dpMiscOf D.plainOf controlOf saidOf pageOf standingOf A.tableRow A.dataProcessing A.miscellaneous
     exchange-link low =
         by-field w 21 2
-        ((λ e. simp (controls, lows, groups, cond, group, op, s, low, e) (holds (simp cond))) also
+        ((λ e. simp (controls, lows, groups, cond, group, op, s, low, e) (undefined-held w addr)) also
         (λ e. simp (controls, lows, groups, cond, group, op, s, low, e) (holds refl)) also
-        (λ e. simp (controls, lows, groups, cond, group, op, s, low, e) (holds (simp cond))) also
-        (λ e. simp (controls, lows, groups, cond, group, op, s, low, e) (holds (simp cond))) also tt)
+        (λ e. simp (controls, lows, groups, cond, group, op, s, low, e) (undefined-held w addr)) also
+        (λ e. simp (controls, lows, groups, cond, group, op, s, low, e) (undefined-held w addr)) also tt)
 
     pub none : field w 4 4 ≡ 4 → HeldAt w addr
     unfolding decodeOf groupOf dpMiscOf D.plainOf controlOf saidOf pageOf standingOf A.tableRow A.dataProcessing A.miscellaneous
     none low =
         by-field w 21 2
-        ((λ e. simp (controls, lows, groups, cond, group, op, s, low, e) (holds (simp cond))) also
-        (λ e. simp (controls, lows, groups, cond, group, op, s, low, e) (holds (simp cond))) also
-        (λ e. simp (controls, lows, groups, cond, group, op, s, low, e) (holds (simp cond))) also
-        (λ e. simp (controls, lows, groups, cond, group, op, s, low, e) (holds (simp cond))) also tt)
+        ((λ e. simp (controls, lows, groups, cond, group, op, s, low, e) (undefined-held w addr)) also
+        (λ e. simp (controls, lows, groups, cond, group, op, s, low, e) (undefined-held w addr)) also
+        (λ e. simp (controls, lows, groups, cond, group, op, s, low, e) (undefined-held w addr)) also
+        (λ e. simp (controls, lows, groups, cond, group, op, s, low, e) (undefined-held w addr)) also tt)
 
     pub saturating : field w 4 4 ≡ 5 → HeldAt w addr
     unfolding decodeOf groupOf dpMiscOf D.plainOf controlOf saidOf pageOf standingOf A.tableRow A.dataProcessing A.miscellaneous A.saturating
@@ -123,16 +124,16 @@ module _ (w addr : ℕ) (cond : eqb (field w 28 4) 15 ≡ false) (group : field 
     unfolding decodeOf groupOf dpMiscOf D.plainOf controlOf saidOf pageOf standingOf A.tableRow A.dataProcessing A.miscellaneous
     return low =
         by-field w 21 2
-        ((λ e. simp (controls, lows, groups, cond, group, op, s, low, e) (holds (simp cond))) also
-        (λ e. simp (controls, lows, groups, cond, group, op, s, low, e) (holds (simp cond))) also
-        (λ e. simp (controls, lows, groups, cond, group, op, s, low, e) (holds (simp cond))) also
+        ((λ e. simp (controls, lows, groups, cond, group, op, s, low, e) (undefined-held w addr)) also
+        (λ e. simp (controls, lows, groups, cond, group, op, s, low, e) (undefined-held w addr)) also
+        (λ e. simp (controls, lows, groups, cond, group, op, s, low, e) (undefined-held w addr)) also
         (λ e. simp (controls, lows, groups, cond, group, op, s, low, e) (holds refl)) also tt)
 
     pub breakpoint : field w 4 4 ≡ 7 → HeldAt w addr
     unfolding decodeOf groupOf dpMiscOf D.plainOf controlOf saidOf pageOf standingOf A.tableRow A.dataProcessing A.miscellaneous
     breakpoint low =
         by-field w 21 2
-        ((λ e. simp (controls, lows, groups, cond, group, op, s, low, e) (holds (simp cond))) also
+        ((λ e. simp (controls, lows, groups, cond, group, op, s, low, e) (undefined-held w addr)) also
         (λ e. split (eqb (field w 28 4) 14) (λ c. simp (controls, lows, groups, cond, group, op, s, low, e) (holds (simp (c, eqb-true (field w 28 4) 14 c)))) (λ c. simp (controls, lows, groups, cond, group, op, s, low, e) (holds (simp c (refl, conditions c))))) also
         (λ e. simp (controls, lows, groups, cond, group, op, s, low, e) (holds refl)) also
         (λ e. simp (controls, lows, groups, cond, group, op, s, low, e) (holds refl)) also tt)

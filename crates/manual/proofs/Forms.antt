@@ -9,7 +9,7 @@ use Rattle.insn.specs.Numbers.{modeNumber, flowNumber}
 use Rattle.insn.specs.declared.Decoded.{Decoded}
 use Rattle.insn.specs.declared.Mem.{Mem}
 use Rattle.insn.specs.declared.Operand.{Operand}
-use Rattle.insn.specs.declared.Operand.the-variants.{Empty, Register, Shifted, ShiftBy, SaturateShift, Rotate, Count, Number, StatusMask, StatusSource, WriteBack, Address, Memory}
+use Rattle.insn.specs.declared.Operand.the-variants.{Empty, Register, Shifted, ShiftBy, SaturateShift, Rotate, Count, Number, StatusMask, StatusSource, WriteBack, Address, Memory, Option}
 use Rattle.insn.specs.declared.Operand.the-variants as Op
 
 pub record Parts : Type 0 where
@@ -34,6 +34,7 @@ parts (WriteBack r) = neither
 parts (Op.List n) = neither
 parts (Address n) = neither
 parts (Memory m) = record { memory = m; count = 0 }
+parts (Option n) = neither
 
 abbrev at : ℕ → Decoded → Parts
 at n d = parts (getD (d .insn .ops) n (record { operand = Empty }) .operand)

@@ -76,7 +76,7 @@ module _ (w addr : ℕ) (row : String) (name : ℕ) (flow : Flow) (ops : List Op
 pub named : (w addr : ℕ) (row : String) → saidOf w addr row ≡ names row → pageOf row w ≡ row → standingOf row w ≡ follows → Held row w addr (refused 3)
 named w addr row said page stands = holds (simp (page, stands, said))
 
--- under a condition, what is undefined is refused
-pub undefined-held : (w addr : ℕ) → eqb (field w 28 4) 15 ≡ false → Held "UNDEFINED" w addr (refused 3)
+-- what is undefined is refused
+pub undefined-held : (w addr : ℕ) → Held "UNDEFINED" w addr (refused 3)
 unfolding saidOf pageOf standingOf
-undefined-held w addr cond = holds (simp cond)
+undefined-held w addr = holds refl

@@ -24,7 +24,7 @@ use Rattle.insn.specs.declared.Index.the-variants.{Absent}
 use Rattle.insn.specs.declared.Flow.{Flow}
 use Rattle.insn.specs.declared.Flow.the-variants.{Next, Branch, CondBranch, IndirectBranch, Call, IndirectCall, Return, Trap}
 use Rattle.insn.specs.declared.Operand.{Operand}
-use Rattle.insn.specs.declared.Operand.the-variants.{Register, Count, Number, StatusMask, StatusSource, WriteBack, Address}
+use Rattle.insn.specs.declared.Operand.the-variants.{Register, Count, Number, StatusMask, StatusSource, WriteBack, Address, Option}
 use Rattle.insn.specs.declared.Operand.the-variants as Op
 use Rattle.insn.specs.declared.Status.the-variants.{Apsr, Spsr}
 use Rattle.manual.specs.A5.{tableRow}
@@ -137,7 +137,7 @@ refusedRows =
     "STM (User registers)" ∷ "LDM (User registers)" ∷ "LDM (exception return)" ∷
     -- A5.7.1
     "CPS" ∷ "SETEND" ∷ "Advanced SIMD data-processing" ∷ "Advanced SIMD load/store" ∷ "unallocated memory hint" ∷
-    "PLI (immediate, literal)" ∷ "CLREX" ∷ "DSB" ∷ "DMB" ∷ "ISB" ∷ "PLI (register)" ∷ "PLDW (register)" ∷ "PLD (register)" ∷
+    "PLI (immediate, literal)" ∷ "PLI (register)" ∷ "PLDW (register)" ∷ "PLD (register)" ∷
     -- A5.7
     "SRS" ∷ "RFE" ∷ "LDC, LDC2" ∷ "STC, STC2" ∷ "MCRR, MCRR2" ∷ "MRRC, MRRC2" ∷ "CDP, CDP2" ∷ "MCR, MCR2" ∷ "MRC, MRC2" ∷
     []
@@ -273,6 +273,10 @@ module _ (w addr : ℕ) where
 
   abbrev pub preload : ℕ → Said
   preload name = reading name Next (memory (field w 16 4) Absent (offset w (field w 0 12)) Offset 1 false (isMinusZero w (field w 0 12)) ∷ [])
+
+  -- "option"
+  abbrev pub barrier : ℕ → Said
+  barrier name = reading name Next (Option (field w 0 4) ∷ [])
 
   abbrev pub pages : List Page
   pages =
@@ -458,6 +462,10 @@ module _ (w addr : ℕ) where
       ("PLDW (immediate)" := preload N.PLDW) ∷
       ("PLD (immediate)" := preload N.PLD) ∷
       ("PLD (literal)" := preload N.PLD) ∷
+      ("CLREX" := reading N.CLREX Next []) ∷
+      ("DSB" := barrier N.DSB) ∷
+      ("DMB" := barrier N.DMB) ∷
+      ("ISB" := barrier N.ISB) ∷
       ("BLX (immediate)" := reading N.BLX (Call (fromPC imm24H)) (Address (fromPC imm24H) ∷ [])) ∷
       []
 

@@ -39,10 +39,9 @@ pub data Departure : Type 0 where
   extend-bits : Departure
   hint-bits : Departure
   trap-condition : Departure
-  preload-swapped : Departure
-  preload-refused : Departure
-  barrier-as-preload : Departure
-  undefined-as-preload : Departure
+  preload-bits : Departure
+  preload-literal : Departure
+  barrier-bits : Departure
 
 abbrev pub compares : List String
 compares =
@@ -101,9 +100,15 @@ isOffset Offset = true
 isOffset PreIndex = false
 isOffset PostIndex = false
 
--- 15:12 and bit 4 as a preload's are expected
-unfoldable pub preloadBits : ℕ → Bool
-preloadBits w = both (eqb (field w 12 4) 15) (not (isSet w 4))
+abbrev pub barriers : List String
+barriers = "CLREX" ∷ "DSB" ∷ "DMB" ∷ "ISB" ∷ []
+
+-- a PLDW from R[15], with 15:12 as expected
+unfoldable pub literalPldw : ℕ → Bool
+literalPldw w =
+    both (eqb (field w 28 4) 15)
+    (both (eqb (field w 24 4) 5)
+    (both (eqb (field w 20 3) 1) (both (eqb (field w 16 4) 15) (eqb (field w 12 4) 15))))
 
 -- a departure covers the words of some rows that pass a test
 pub record Covering : Type 0 where
@@ -137,10 +142,10 @@ coverings w =
     (extend-bits covers extends when not (eqb (field w 8 2) 0)) ∷
     (hint-bits covers hints when not (eqb (field w 12 4) 15)) ∷
     (trap-condition covers ("BKPT" ∷ "UDF" ∷ []) when not (eqb (field w 28 4) 14)) ∷
-    (preload-swapped covers preloads when preloadBits w) ∷
-    (preload-refused covers preloads when true) ∷
-    (barrier-as-preload covers ("DSB" ∷ "ISB" ∷ []) when preloadBits w) ∷
-    (undefined-as-preload covers ("UNDEFINED" ∷ "UNPREDICTABLE" ∷ []) when both (eqb (field w 28 4) 15) (both (eqb (field w 24 4) 5) (preloadBits w))) ∷
+    (preload-bits covers preloads when not (eqb (field w 12 4) 15)) ∷
+    (minus-zero covers preloads when isMinusZero w (field w 0 12)) ∷
+    (preload-literal covers ("UNPREDICTABLE" ∷ []) when literalPldw w) ∷
+    (barrier-bits covers barriers when not (eqb (field w 8 12) 0xff0)) ∷
     []
 
 -- the first that covers a word of this row
@@ -176,6 +181,9 @@ module _ (w addr : ℕ) where
   abbrev displacing : ℕ → Flow → Said
   displacing name flow = transfers w addr name flow (addressing w) (both (not (isOffset (addressing w))) (isMinusZero w (field w 0 12)))
 
+  abbrev preloading : ℕ → Said
+  preloading name = reading w addr name Next (memory (field w 16 4) Absent (offset w (field w 0 12)) Offset 1 false false ∷ [])
+
   -- any load to 15 is a branch
   abbrev pub portLoads : List Page
   portLoads =
@@ -192,6 +200,9 @@ module _ (w addr : ℕ) where
       ("LDRD (literal)" := extra w addr N.LDRD 8 (pair w addr) (addressing w)) ∷
       ("LDRSB (literal)" := extra w addr N.LDRSB 1 (one w addr) (addressing w)) ∷
       ("LDRSH (literal)" := extra w addr N.LDRSH 2 (one w addr) (addressing w)) ∷
+      ("PLDW (immediate)" := preloading N.PLDW) ∷
+      ("PLD (immediate)" := preloading N.PLD) ∷
+      ("PLD (literal)" := preloading N.PLD) ∷
       []
 
   -- four bits of the five
@@ -200,12 +211,6 @@ module _ (w addr : ℕ) where
       ("SSAT" := reading w addr N.SSAT Next (R w 12 ∷ Count (pos (field w 16 4 + 1)) ∷ R w 0 ∷ saturateShift w ∷ [])) ∷
       ("USAT" := reading w addr N.USAT Next (R w 12 ∷ Count (pos (field w 16 4)) ∷ R w 0 ∷ saturateShift w ∷ [])) ∷
       []
-
-  -- by bit 22 alone, and the other way round
-  abbrev pub portPreload : Decoded
-  portPreload =
-      answered
-      (reading w addr (pick (isSet w 22) N.PLDW N.PLD) Next (memory (field w 16 4) Absent (offset w (field w 0 12)) Offset 1 false false ∷ []))
 
   -- what the decoder answers, of a row of A5's tables and the page that reads it
   abbrev pub portOf : Departure → String → String → Decoded
@@ -227,7 +232,6 @@ module _ (w addr : ℕ) where
   portOf extend-bits row page = refused 3
   portOf hint-bits row page = answered (saidOf w addr "MSR (immediate)")
   portOf trap-condition row page = conditioned w (answered (saidOf w addr page))
-  portOf preload-swapped row page = portPreload
-  portOf preload-refused row page = refused 3
-  portOf barrier-as-preload row page = portPreload
-  portOf undefined-as-preload row page = portPreload
+  portOf preload-bits row page = refused 3
+  portOf preload-literal row page = answered (preloading N.PLDW)
+  portOf barrier-bits row page = refused 3

@@ -6,6 +6,7 @@ use Rattle.text.proofs.Unique.{one-put}
 use Rattle.names.proofs.put_root.Reads as put-root
 use Rattle.names.proofs.put_suffix.Reads as put-suffix
 use Rattle.names.proofs.put_mask.Reads as put-mask
+use Rattle.names.proofs.put_barrier.Reads as put-barrier
 use Rattle.names.proofs.put_shift.Reads as put-shift
 use Rattle.names.proofs.put_source.Reads as put-source
 use Rattle.names.proofs.put_register.Reads as put-register
@@ -19,6 +20,9 @@ put-suffix-only κs a r r′ s s′ p q = one-put p q
 
 pub put-mask-only : (κs : _) (a : _) (r r′ : _) (s s′ : _) → put-mask.Post κs a r s → put-mask.Post κs a r′ s′ → (r ≡ r′) × (now (s .0) ≡ now (s′ .0))
 put-mask-only κs a r r′ s s′ p q = one-put p q
+
+pub put-barrier-only : (κs : _) (a : _) (r r′ : _) (s s′ : _) → put-barrier.Post κs a r s → put-barrier.Post κs a r′ s′ → (r ≡ r′) × (now (s .0) ≡ now (s′ .0))
+put-barrier-only κs a r r′ s s′ p q = one-put p q
 
 pub put-shift-only : (κs : _) (a : _) (r r′ : _) (s s′ : _) → put-shift.Post κs a r s → put-shift.Post κs a r′ s′ → (r ≡ r′) × (now (s .0) ≡ now (s′ .0))
 put-shift-only κs a r r′ s s′ p q = one-put p q

@@ -10,7 +10,7 @@ ghost use Prim.Native.Nat.{_%_};
 ghost use Rattle.insn.specs.Numbers.{statusNumber};
 ghost use Rattle.text.specs.Entry.{entryOf};
 ghost use Rattle.text.specs.Put.{Room, Put};
-ghost use Rattle.spelling.specs.Names.{roots, suffixes, masks, sources, entry};
+ghost use Rattle.spelling.specs.Names.{roots, suffixes, masks, sources, barriers, entry};
 ghost use Rattle.spelling.specs.Line.{registerOf, shiftOf, flowOf};
 
 /// The roots, four to a row, by name number.
@@ -78,7 +78,9 @@ const ROOTS_30: [u8; 32] = *b"stm     stmdb   stmib   pop     ";
 
 const ROOTS_31: [u8; 32] = *b"push    bl      b       pld     ";
 
-const ROOTS_32: [u8; 32] = *b"pldw                            ";
+const ROOTS_32: [u8; 32] = *b"pldw    clrex   dsb     dmb     ";
+
+const ROOTS_33: [u8; 32] = *b"isb                             ";
 
 /// By condition.
 const SUFFIXES: [u8; 32] = *b"\
@@ -95,6 +97,11 @@ const MASKS: [u8; 384] = *b"\
     SPSR_s      SPSR_sc     SPSR_sx     SPSR_sxc    \
     SPSR_f      SPSR_fc     SPSR_fx     SPSR_fxc    \
     SPSR_fs     SPSR_fsc    SPSR_fsx    SPSR_fsxc   ";
+
+/// The options of a barrier, by 3:0.
+const BARRIERS: [u8; 96] = *b"\
+    #0x0  oshld oshst osh   #0x4  nshld nshst nsh   \
+    #0x8  ishld ishst ish   #0xc  ld    st    sy    ";
 
 /// By the number of a shift's kind.
 const SHIFTS: [u8; 16] = *b"\
@@ -160,6 +167,7 @@ fn roots_with(name: u16) -> [u8; 32]
         30 => ROOTS_30,
         31 => ROOTS_31,
         32 => ROOTS_32,
+        33 => ROOTS_33,
         _ => [b' '; 32],
     }
 }
@@ -183,6 +191,13 @@ pub fn put_shift(out: &mut [u8], at: usize, kind: Shift) -> usize
     ensures { λ r. ⌜ Put (now (out .entry)) at (shiftOf kind) r (now (out .exit)) ⌝ }
 {
     put_entry(out, at, &SHIFTS, 4, kind.number() as usize)
+}
+
+pub fn put_barrier(out: &mut [u8], at: usize, option: u8) -> usize
+    requires { ⌜ Room (now out) at (entry barriers option) ⌝ }
+    ensures { λ r. ⌜ Put (now (out .entry)) at (entry barriers option) r (now (out .exit)) ⌝ }
+{
+    put_entry(out, at, &BARRIERS, 6, option as usize)
 }
 
 pub fn put_source(out: &mut [u8], at: usize, status: Status) -> usize

@@ -5,6 +5,7 @@ use insn::Mem;
 use insn::Operand;
 use insn::PLACES;
 use insn::Place;
+use names::put_barrier;
 use names::put_mask;
 use names::put_register;
 use names::put_shift;
@@ -135,6 +136,7 @@ fn put_operand(out: &mut [u8], at: usize, operand: Operand) -> usize
             put_hex(out, at, a, 8)
         }
         Operand::Memory(m) => put_memory(out, at, m),
+        Operand::Option(n) => put_barrier(out, at, n),
     }
 }
 

@@ -7,7 +7,7 @@ use Rattle.insn.specs.declared.Index.{Index}
 use Rattle.insn.specs.declared.Index.the-variants.{Absent, Left}
 use Rattle.insn.specs.declared.Mem.{Mem}
 use Rattle.insn.specs.declared.Operand.{Operand}
-use Rattle.insn.specs.declared.Operand.the-variants.{Empty, Register, Shifted, ShiftBy, SaturateShift, Rotate, Count, Number, StatusMask, StatusSource, WriteBack, List as RegisterList, Address, Memory}
+use Rattle.insn.specs.declared.Operand.the-variants.{Empty, Register, Shifted, ShiftBy, SaturateShift, Rotate, Count, Number, StatusMask, StatusSource, WriteBack, List as RegisterList, Address, Memory, Option}
 use Rattle.parts.specs.declared.Flat.{Flat}
 
 -- whether a signed number is negative
@@ -77,3 +77,4 @@ operandFlat (WriteBack r) = plainFlat 10 (r .0) 0 0 0 0
 operandFlat (RegisterList n) = plainFlat 11 0 0 0 0 n
 operandFlat (Address n) = plainFlat 12 0 0 0 0 n
 operandFlat (Memory m) = memFlat m
+operandFlat (Option n) = plainFlat 14 0 0 n 0 0

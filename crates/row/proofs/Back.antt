@@ -17,7 +17,7 @@ use Rattle.insn.specs.declared.Index.the-variants.{Absent, Left}
 use Rattle.insn.specs.declared.Insn.{Insn}
 use Rattle.insn.specs.declared.Mem.{Mem}
 use Rattle.insn.specs.declared.Operand.{Operand}
-use Rattle.insn.specs.declared.Operand.the-variants.{Empty, Register, Shifted, ShiftBy, SaturateShift, Rotate, Count, Number, StatusMask, StatusSource, WriteBack, List as RegisterList, Address, Memory}
+use Rattle.insn.specs.declared.Operand.the-variants.{Empty, Register, Shifted, ShiftBy, SaturateShift, Rotate, Count, Number, StatusMask, StatusSource, WriteBack, List as RegisterList, Address, Memory, Option}
 use Rattle.insn.specs.declared.Place.{Place}
 use Rattle.insn.specs.declared.Reg.{Reg}
 use Rattle.insn.specs.declared.Status.{Status}
@@ -51,6 +51,7 @@ Narrow (WriteBack r) = r .0 < 2 ^ 8
 Narrow (RegisterList n) = n < 2 ^ 16
 Narrow (Address n) = n < 2 ^ 32
 Narrow (Memory m) = (m .base .0 < 2 ^ 8) × (Indexed (m .index) × ((magnitude (m .disp) < 2 ^ 63) × (m .size < 2 ^ 8)))
+Narrow (Option n) = n < 2 ^ 8
 
 -- and so do those of four operands, and all of an instruction
 pub record Four (ops : List Place) : Type 0 where
@@ -117,6 +118,7 @@ operand-back (WriteBack r) h = ap (λ (x : Reg). WriteBack x) (reg-back r h)
 operand-back (RegisterList n) h = ap (λ (x : ℕ). RegisterList x) (plain-back h)
 operand-back (Address n) h = ap (λ (x : ℕ). Address x) (plain-back h)
 operand-back (Memory m) h = ap (λ (x : Mem). Memory x) (mem-back m h)
+operand-back (Option n) h = ap (λ (x : ℕ). Option x) (mod-eq-of-lt h)
 
 -- reading four operands from their rows, and what stands before and after them
 laid-back : (a n : ℕ) (c : Cond) (f : Flow) (o p q s : Operand) (rest : List ℕ) → n < 2 ^ 16 → c .0 < 2 ^ 8 → flowTarget f < 2 ^ 32

@@ -3,7 +3,7 @@ use Prim.Native.Nat.{_≤_}
 use native.Mathlib.Omega.{arith}
 use lib.IntN.{ℤ, pos, negsuc, natAbs}
 use Rattle.insn.specs.declared.Operand.{Operand}
-use Rattle.insn.specs.declared.Operand.the-variants.{Empty, Register, Shifted, ShiftBy, SaturateShift, Rotate, Count, Number, StatusMask, StatusSource, WriteBack, List as RegisterList, Address, Memory}
+use Rattle.insn.specs.declared.Operand.the-variants.{Empty, Register, Shifted, ShiftBy, SaturateShift, Rotate, Count, Number, StatusMask, StatusSource, WriteBack, List as RegisterList, Address, Memory, Option}
 use Rattle.parts.specs.Operands.{signNumber, operandFlat}
 
 signed : (z : ℤ) → signNumber z ≤ natAbs z
@@ -25,3 +25,4 @@ sign-below (WriteBack r) = omega arith
 sign-below (RegisterList n) = omega arith
 sign-below (Address n) = omega arith
 sign-below (Memory m) = signed (m .disp)
+sign-below (Option n) = omega arith

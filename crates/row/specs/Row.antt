@@ -8,7 +8,7 @@ use Rattle.insn.specs.declared.Insn.{Insn}
 use Rattle.parts.specs.declared.Flat.{Flat}
 use Rattle.parts.specs.Operands.{operandFlat}
 
--- an operand's eleven numbers: kind; register or base; shift's kind, status register or whether there is an index; amount or mask; sign;
+-- an operand's eleven numbers: kind; register or base; shift's kind, status register or whether there is an index; amount, mask or option; sign;
 -- value or displacement, of a negative one its complement: minus one is a sign and 0
 abbrev pub firstRow : Flat → List ℕ
 firstRow f = f .kind ∷ f .reg ∷ f .how ∷ f .amount ∷ f .negative ∷ (f .value - f .negative) ∷ []

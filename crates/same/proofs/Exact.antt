@@ -20,7 +20,7 @@ use Rattle.insn.specs.declared.Index.{Index}
 use Rattle.insn.specs.declared.Index.the-variants.{Absent, Left}
 use Rattle.insn.specs.declared.Mem.{Mem}
 use Rattle.insn.specs.declared.Operand.{Operand}
-use Rattle.insn.specs.declared.Operand.the-variants.{Empty, Register, Shifted, ShiftBy, SaturateShift, Rotate, Count, Number, StatusMask, StatusSource, WriteBack, List as RegisterList, Address, Memory}
+use Rattle.insn.specs.declared.Operand.the-variants.{Empty, Register, Shifted, ShiftBy, SaturateShift, Rotate, Count, Number, StatusMask, StatusSource, WriteBack, List as RegisterList, Address, Memory, Option}
 use Rattle.insn.specs.declared.Place.{Place}
 use Rattle.insn.specs.declared.Flow.{Flow}
 use Rattle.insn.specs.declared.Flow.the-variants.{Next, Branch, CondBranch, IndirectBranch, Call, IndirectCall, Return, Trap}
@@ -112,7 +112,8 @@ operandBack f =
     (pick (eqb (f .kind) 9) (StatusSource (statusBack (f .how)))
     (pick (eqb (f .kind) 10) (WriteBack (record { 0 = f .reg }))
     (pick (eqb (f .kind) 11) (RegisterList (f .value))
-    (pick (eqb (f .kind) 12) (Address (f .value)) (Memory (memBack f))))))))))))))
+    (pick (eqb (f .kind) 12) (Address (f .value))
+    (pick (eqb (f .kind) 13) (Memory (memBack f)) (Option (f .amount)))))))))))))))
 
 operand-back : (o : Operand) → operandBack (operandFlat o) ≡ o
 operand-back Empty = refl
@@ -129,6 +130,7 @@ operand-back (WriteBack r) = refl
 operand-back (RegisterList n) = refl
 operand-back (Address n) = refl
 operand-back (Memory m) = ap (λ (x : Mem). Memory x) (mem-back m)
+operand-back (Option n) = refl
 
 abbrev flowBack : ℕ → ℕ → Flow
 flowBack n a =

@@ -4,7 +4,7 @@ use mathlib.Core.Bool.{true}
 use native.Mathlib.Omega.{arith}
 use Rattle.insn.specs.Numbers.{operandNumber}
 use Rattle.insn.specs.declared.Operand.{Operand}
-use Rattle.insn.specs.declared.Operand.the-variants.{Empty, Register, Shifted, ShiftBy, SaturateShift, Rotate, Count, Number, StatusMask, StatusSource, WriteBack, List, Address, Memory}
+use Rattle.insn.specs.declared.Operand.the-variants.{Empty, Register, Shifted, ShiftBy, SaturateShift, Rotate, Count, Number, StatusMask, StatusSource, WriteBack, List, Address, Memory, Option}
 use Rattle.parts.specs.declared.Flat.{Flat}
 use Rattle.parts.specs.Operands.{plainFlat, operandFlat}
 use Rattle.same.specs.Same.{sameEnds}
@@ -24,6 +24,7 @@ kind-is (WriteBack r) = refl
 kind-is (List n) = refl
 kind-is (Address n) = refl
 kind-is (Memory m) = refl
+kind-is (Option n) = refl
 
 pub none-is : (o : Operand) → operandNumber o ≡ 0 → o ≡ Empty
 none-is Empty h = refl
@@ -40,6 +41,7 @@ none-is (WriteBack r) h = absurd (omega arith)
 none-is (List n) h = absurd (omega arith)
 none-is (Address n) h = absurd (omega arith)
 none-is (Memory m) h = absurd (omega arith)
+none-is (Option n) h = absurd (omega arith)
 
 pub register-is : (o : Operand) → operandNumber o ≡ 1 → operandFlat o ≡ plainFlat 1 (operandFlat o .reg) 0 0 0 0
 register-is Empty h = absurd (omega arith)
@@ -56,6 +58,7 @@ register-is (WriteBack r) h = absurd (omega arith)
 register-is (List n) h = absurd (omega arith)
 register-is (Address n) h = absurd (omega arith)
 register-is (Memory m) h = absurd (omega arith)
+register-is (Option n) h = absurd (omega arith)
 
 -- only a memory form has numbers after the first six
 abbrev Plain : Flat → Type 0
@@ -76,6 +79,7 @@ plain-is (WriteBack r) h = refl
 plain-is (List n) h = refl
 plain-is (Address n) h = refl
 plain-is (Memory m) h = absurd (h refl)
+plain-is (Option n) h = refl
 
 pub plain-ends : (x y : Operand) → (operandNumber x ≡ 13 → ⊥) → (operandNumber y ≡ 13 → ⊥) → sameEnds (operandFlat x) (operandFlat y) ≡ true
 plain-ends x y h k = ap₂ sameEnds (plain-is x h) (plain-is y k)

@@ -9,6 +9,7 @@ use borrow.Author.Tests.{eqb-true, eqb-false, ltb-false}
 use lib.Dec.{eqb, ltb}
 use Rattle.word.specs.Choice.{pick, by-test}
 use Rattle.text.specs.Text.{bytes, decimalOf}
+use Rattle.insn.specs.Name.{NAMES}
 use Rattle.insn.specs.Numbers.{flowNumber}
 use Rattle.insn.specs.declared.Operand.{Operand}
 use Rattle.insn.specs.Answer.{insnOf, places}
@@ -31,11 +32,11 @@ flow-free : (flow : Flow) → free (flowOf flow) ≡ true
 unfolding flowOf
 flow-free flow = every-passes (λ n. free (entry flows n)) 8 tt (flowNumber flow) (flow-few flow)
 
-name-free : (n : ℕ) (c : Cond) → n < 129 → c .0 < 16 → free (nameOf n c) ≡ true
+name-free : (n : ℕ) (c : Cond) → n < NAMES → c .0 < 16 → free (nameOf n c) ≡ true
 unfolding nameOf
 name-free n c h k =
     all-cat (isnt (code " ")) (entry roots n) (entry suffixes (c .0))
-    ∙ rw (every-passes (λ n. free (entry roots n)) 129 tt n h, every-passes (λ n. free (entry suffixes n)) 16 tt (c .0) k)
+    ∙ rw (every-passes (λ n. free (entry roots n)) NAMES tt n h, every-passes (λ n. free (entry suffixes n)) 16 tt (c .0) k)
 
 -- the words of a text after the name: the operands, and the flow
 abbrev wordsOf : List Operand → List ℕ → List (List ℕ)
@@ -153,6 +154,6 @@ module _ (n : ℕ) where
   refused-words =
       cut (code " ") (bytes "refused") (decimalOf n) refl ∙ rw (uncut (code " ") (decimalOf n) (decimal-free n))
 
-  pub nameless : (addr : ℕ) → insnFrom addr (refusedText n) .name ≡ 129
+  pub nameless : (addr : ℕ) → insnFrom addr (refusedText n) .name ≡ NAMES
   unfolding insnFrom nameFrom conditionFrom
   nameless addr = ap (λ (ws : List (List ℕ)). fromWords addr ws .name) refused-words

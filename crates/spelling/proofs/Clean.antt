@@ -16,11 +16,11 @@ use Rattle.insn.specs.declared.Index.{Index}
 use Rattle.insn.specs.declared.Index.the-variants.{Absent, Left}
 use Rattle.insn.specs.declared.Mem.{Mem}
 use Rattle.insn.specs.declared.Operand.{Operand}
-use Rattle.insn.specs.declared.Operand.the-variants.{Empty, Register, Shifted, ShiftBy, SaturateShift, Rotate, Count, Number, StatusMask, StatusSource, WriteBack, List as RegisterList, Address, Memory}
+use Rattle.insn.specs.declared.Operand.the-variants.{Empty, Register, Shifted, ShiftBy, SaturateShift, Rotate, Count, Number, StatusMask, StatusSource, WriteBack, List as RegisterList, Address, Memory, Option}
 use Rattle.insn.specs.declared.Reg.{Reg}
 use Rattle.insn.specs.declared.Shift.{Shift}
 use Rattle.insn.specs.declared.Status.the-variants.{Apsr, Spsr}
-use Rattle.spelling.specs.Names.{masks, registers, shifts, entry}
+use Rattle.spelling.specs.Names.{masks, registers, shifts, barriers, entry}
 use Rattle.spelling.specs.Line.{registerOf, shiftOf, indexOf, displacementOf, modeOf, memoryOf, operandOf}
 use Rattle.spelling.proofs.Cut.{all, all-cat, isnt, lacks, pieces, cut, uncut}
 use Rattle.spelling.proofs.Digits.{first, decimal-all, signed-all, hex-all}
@@ -163,3 +163,4 @@ operand-free last name (WriteBack r) s = simp (all-cat, register-free r s)
 operand-free last name (RegisterList n) s = simp (all-cat, clean-free (hexOf 4 n) (hex-clean 4 n))
 operand-free last name (Address n) s = clean-free (hexOf 8 n) (hex-clean 8 n)
 operand-free last name (Memory m) s = memory-free name m (s .1)
+operand-free last name (Option n) s = every-passes (λ n. free (entry barriers n)) 16 tt n (s .1)

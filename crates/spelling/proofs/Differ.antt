@@ -9,6 +9,7 @@ use borrow.Author.Tests.{eqb-true, eqb-false, lt-ltb}
 use lib.Dec.{eqb, ltb}
 use lib.ListN.{getD}
 use Rattle.word.specs.Choice.{pick, by-test}
+use Rattle.insn.specs.Name.{NAMES}
 use Rattle.insn.specs.Answer.{accepted, refused}
 use Rattle.insn.specs.declared.Decoded.{Decoded}
 use Rattle.insn.specs.declared.Insn.{Insn}
@@ -23,11 +24,11 @@ use Rattle.spelling.proofs.FormedAll.{all-good}
 -- "refused" is no name
 pub answerFrom : ℕ → List ℕ → Decoded
 answerFrom addr text =
-    pick (ltb (insnFrom addr text .name) 129) (accepted (insnFrom addr text)) (refused (numberFrom 10 (getD (pieces (code " ") text) 1 [])))
+    pick (ltb (insnFrom addr text .name) NAMES) (accepted (insnFrom addr text)) (refused (numberFrom 10 (getD (pieces (code " ") text) 1 [])))
 
 accepted-back : (addr : ℕ) (i : Insn) → Formed addr i → answerFrom addr (insnText i) ≡ accepted i
 unfolding answerFrom
-accepted-back addr i f = rw (reads-back addr i f, lt-ltb (i .name) 129 (f .named))
+accepted-back addr i f = rw (reads-back addr i f, lt-ltb (i .name) NAMES (f .named))
 
 refused-back : (addr n : ℕ) → n < 10 → answerFrom addr (refusedText n) ≡ refused n
 unfolding answerFrom

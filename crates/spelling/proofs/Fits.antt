@@ -10,6 +10,7 @@ use lib.Dec.{eqb, lit≤}
 use lib.IntN.{natAbs}
 use lib.ListN.{length, length-append}
 use Rattle.word.specs.Choice.{pick, tested}
+use Rattle.insn.specs.Name.{NAMES}
 use Rattle.insn.specs.Numbers.{shiftNumber, flowNumber}
 use Rattle.insn.specs.declared.AddrMode.{AddrMode}
 use Rattle.insn.specs.declared.AddrMode.the-variants.{Offset, PreIndex, PostIndex}
@@ -21,12 +22,12 @@ use Rattle.insn.specs.declared.Index.the-variants.{Absent, Left}
 use Rattle.insn.specs.declared.Insn.{Insn}
 use Rattle.insn.specs.declared.Mem.{Mem}
 use Rattle.insn.specs.declared.Operand.{Operand}
-use Rattle.insn.specs.declared.Operand.the-variants.{Empty, Register, Shifted, ShiftBy, SaturateShift, Rotate, Count, Number, StatusMask, StatusSource, WriteBack, List as RegisterList, Address, Memory}
+use Rattle.insn.specs.declared.Operand.the-variants.{Empty, Register, Shifted, ShiftBy, SaturateShift, Rotate, Count, Number, StatusMask, StatusSource, WriteBack, List as RegisterList, Address, Memory, Option}
 use Rattle.insn.specs.declared.Reg.{Reg}
 use Rattle.insn.specs.declared.Shift.{Shift}
 use Rattle.insn.specs.declared.Status.the-variants.{Apsr, Spsr}
 use Rattle.a32.specs.Decode.{decodeOf}
-use Rattle.spelling.specs.Names.{roots, suffixes, masks, shifts, registers, flows}
+use Rattle.spelling.specs.Names.{roots, suffixes, masks, shifts, barriers, registers, flows}
 use Rattle.spelling.specs.Line.{nameOf, registerOf, shiftOf, indexOf, displacementOf, modeOf, memoryOf, operandOf, flowOf, insnText, refusedText, answerText, lineText, lineOf}
 use Rattle.spelling.proofs.Digits.{decimal-length, signed-length, hex-length}
 use Rattle.spelling.proofs.Formed.{Sound, Laid, Held, Indexed, Formed, Good, either}
@@ -34,10 +35,10 @@ use Rattle.spelling.proofs.FormedAll.{all-good}
 use Rattle.spelling.proofs.Spaced.{spaced, insn-text}
 use Rattle.spelling.proofs.Tables.{at-most, shift-few, flow-few}
 
-name-length : (n : ℕ) (c : Cond) → n < 129 → c .0 < 16 → length (nameOf n c) ≤ 9
+name-length : (n : ℕ) (c : Cond) → n < NAMES → c .0 < 16 → length (nameOf n c) ≤ 9
 unfolding nameOf
 name-length n c h k =
-    simp length-append (omega (arith, at-most roots 7 129 tt n h, at-most suffixes 2 16 tt (c .0) k))
+    simp length-append (omega (arith, at-most roots 7 NAMES tt n h, at-most suffixes 2 16 tt (c .0) k))
 
 register-length : (r : Reg) → r .0 < 16 → length (registerOf r) ≤ 3
 unfolding registerOf
@@ -102,6 +103,7 @@ operand-length last name (WriteBack r) s = least last (simp length-append (omega
 operand-length last name (RegisterList n) s = least last (simp length-append (omega (arith, hex-length 4 n)))
 operand-length last name (Address n) s = least last (omega (arith, hex-length 8 n))
 operand-length last name (Memory m) s = subst (λ (b : Bool). length (memoryOf m) ≤ room b) (sym (s .0)) (memory-length name m (s .1))
+operand-length last name (Option n) s = least last (omega (arith, at-most barriers 5 16 tt n (s .1)))
 
 spaced-length : (name : ℕ) (ops : List Operand) → Laid name ops → (rest : List ℕ) → length (spaced ops rest) ≤ 13 * length ops + 10 + length rest
 spaced-length name [] laid rest = omega arith

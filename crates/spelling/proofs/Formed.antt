@@ -11,7 +11,7 @@ use lib.ListN.{length}
 use Rattle.word.specs.Choice.{pick, both, inside, tested, parts, passes}
 use Rattle.word.specs.Field.{field, small}
 use Rattle.insn.specs.Answer.{places, refused}
-use Rattle.insn.specs.Name.{BKPT, BLX, STRH, LDRSH, MOVT, MOVW, LDR, STRBT, UDF, UBFX, PLD}
+use Rattle.insn.specs.Name.{BKPT, BLX, STRH, LDRSH, MOVT, MOVW, LDR, STRBT, UDF, UBFX, PLD, DSB, NAMES}
 use Rattle.insn.specs.Numbers.{shiftNumber, flowNumber}
 use Rattle.insn.specs.declared.AddrMode.{AddrMode}
 use Rattle.insn.specs.declared.Decoded.{Decoded}
@@ -22,19 +22,19 @@ use Rattle.insn.specs.declared.Index.the-variants.{Absent, Left}
 use Rattle.insn.specs.declared.Insn.{Insn}
 use Rattle.insn.specs.declared.Mem.{Mem}
 use Rattle.insn.specs.declared.Operand.{Operand}
-use Rattle.insn.specs.declared.Operand.the-variants.{Empty, Register, Shifted, ShiftBy, SaturateShift, Rotate, Count, Number, StatusMask, StatusSource, WriteBack, List as RegisterList, Address, Memory}
+use Rattle.insn.specs.declared.Operand.the-variants.{Empty, Register, Shifted, ShiftBy, SaturateShift, Rotate, Count, Number, StatusMask, StatusSource, WriteBack, List as RegisterList, Address, Memory, Option}
 use Rattle.arm.specs.Row.{answer, noRow}
 use Rattle.ldst.specs.Mem.{isPost}
 
--- the names with a bit pattern: it reads as a count does
-abbrev pub patterned : ℕ → Bool
-patterned n = pick (eqb n BKPT) true (pick (inside MOVT MOVW n) true (inside UDF UBFX n))
+-- what follows a `#` under a name: a count, 0; a bit pattern, which reads as a count does, 1; or an option that has no other name, 2
+abbrev pub hashed : ℕ → ℕ
+hashed n = pick (eqb n BKPT) 1 (pick (inside MOVT MOVW n) 1 (pick (inside UDF UBFX n) 1 (pick (leb DSB n) 2 0)))
 
 -- the mark that the text leaves out: load/store "Post sets decimal", extra load/store "Decimal always set"
 abbrev pub decimalFor : ℕ → AddrMode → Bool
 decimalFor n mode = pick (inside LDR STRBT n) (isPost mode) (inside STRH LDRSH n)
 
--- the names of condition 15, by the flow's number: a blx that calls, and the preloads
+-- the names of condition 15, by the flow's number: a blx that calls, the preloads and the barriers
 abbrev pub unconditional : ℕ → ℕ → Bool
 unconditional n flow = pick (eqb n BLX) (eqb flow 4) (leb PLD n)
 
@@ -58,14 +58,15 @@ Sound last name (Shifted r kind n) = (r .0 < 16) × (n < 33)
 Sound last name (ShiftBy kind r) = r .0 < 16
 Sound last name (SaturateShift kind n) = (eqb (shiftNumber kind) 3 ≡ false) × (n < 33)
 Sound last name (Rotate n) = n < 33
-Sound last name (Count z) = (patterned name ≡ false) × (natAbs z < 2 ^ 32)
-Sound last name (Number n) = (patterned name ≡ true) × (n < 2 ^ 32)
+Sound last name (Count z) = (hashed name ≡ 0) × (natAbs z < 2 ^ 32)
+Sound last name (Number n) = (hashed name ≡ 1) × (n < 2 ^ 32)
 Sound last name (StatusMask n) = n < 32
 Sound last name (StatusSource s) = Unit
 Sound last name (WriteBack r) = r .0 < 16
 Sound last name (RegisterList n) = n < 2 ^ 16
 Sound last name (Address n) = n < 2 ^ 32
 Sound last name (Memory m) = (last ≡ true) × Held name m
+Sound last name (Option n) = (hashed name ≡ 2) × (n < 16)
 
 abbrev pub Laid : ℕ → List Operand → Type 0
 Laid name [] = Unit
@@ -88,6 +89,7 @@ addressIn (WriteBack r) = 0
 addressIn (RegisterList n) = 0
 addressIn (Address n) = n
 addressIn (Memory m) = 0
+addressIn (Option n) = 0
 
 abbrev pub targetIn : List Operand → ℕ
 targetIn [] = 0
@@ -110,7 +112,7 @@ pub record Formed (addr : ℕ) (i : Insn) : Type 0 where
   pub laid : i .ops ≡ places operands
   pub few : length operands ≤ 4
   pub sound : Laid (i .name) operands
-  pub named : i .name < 129
+  pub named : i .name < NAMES
   pub under : i .cond .0 < 16
   pub always : eqb (i .cond .0) 15 ≡ unconditional (i .name) (flowNumber (i .flow))
   pub aimed : Aimed operands (i .flow)
@@ -144,7 +146,7 @@ reg w lo = small w lo 4
 
 -- a name and its flow, under the condition of a word
 abbrev pub Under : ℕ → ℕ → Flow → Type 0
-Under w name flow = T (ltb name 129) × (eqb (field w 28 4) 15 ≡ unconditional name (flowNumber flow))
+Under w name flow = T (ltb name NAMES) × (eqb (field w 28 4) 15 ≡ unconditional name (flowNumber flow))
 
 -- a name of conditions below 15, whatever its flow
 abbrev pub ordinary : ℕ → Bool
@@ -152,7 +154,7 @@ ordinary n = both (ltb n PLD) (not (eqb n BLX))
 
 pub by-name : (w n : ℕ) → eqb (field w 28 4) 15 ≡ false → T (ordinary n) → (flow : Flow) → Under w n flow
 by-name w n c t flow =
-    (lt→ltb n 129 (omega (arith, below)), c ∙ sym (simp (not-true (eqb n BLX) (tests .1), lt-leb PLD n below)))
+    (lt→ltb n NAMES (omega (arith, below)), c ∙ sym (simp (not-true (eqb n BLX) (tests .1), lt-leb PLD n below)))
   where
     tests : (ltb n PLD ≡ true) × (not (eqb n BLX) ≡ true)
     tests = parts (ltb n PLD) (not (eqb n BLX)) (passes (ordinary n) t)

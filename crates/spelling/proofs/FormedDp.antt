@@ -1,14 +1,14 @@
 -- Data processing words are formed. Assumes nothing.
 use mathlib.Core.Path.{_≡_, refl}
-use mathlib.Core.Bool.{Bool, false, true, not}
+use mathlib.Core.Bool.{Bool, false, true}
 use mathlib.Core.List.{List, [], _∷_}
 use Prim.Native.Nat.{ℕ, _*_, _^_, _<_}
 use native.Mathlib.Omega.{arith}
-use borrow.Author.Tests.{ltb-false, not-true}
-use lib.Dec.{T, eqb, ltb, lit<}
+use borrow.Author.Tests.{ltb-false}
+use lib.Dec.{T, eqb, ltb, lit<, eqb→eq}
 use lib.IntN.{natAbs}
 use lib.ListN.{getD}
-use Rattle.word.specs.Choice.{both, tested, passes}
+use Rattle.word.specs.Choice.{both, tested}
 use Rattle.word.specs.Every.{left, right, at-each}
 use Rattle.word.specs.Field.{field, small}
 use Rattle.word.specs.Layout.{joined, joined-small}
@@ -23,12 +23,12 @@ use Rattle.imm.specs.Imm.{immOf, soImmOf, leastOf, countOf, byteOf, rotationOf}
 use Rattle.dp.specs.Names.{plain, setting, dpName, shiftName}
 use Rattle.dp.specs.DpReg.{sourceOf, movFlow, movOf, dpRegOf}
 use Rattle.dp.specs.DpImm.{hintSlot, hintOf, msrOf, toPc, operationOf, dpImmOf}
-use Rattle.spelling.proofs.Formed.{reg, Good, Sound, Aimed, patterned, Under, ordinary, by-name, either, choice, at, no-row, row0, row2, row3, row4}
+use Rattle.spelling.proofs.Formed.{reg, Good, Sound, Aimed, hashed, Under, ordinary, by-name, either, choice, at, no-row, row0, row2, row3, row4}
 use Rattle.spelling.proofs.FormedLdst.{abs-minus}
 
 -- the names of data processing are ordinary, and have counts
 abbrev counting : ℕ → Bool
-counting n = both (ordinary n) (not (patterned n))
+counting n = both (ordinary n) (eqb (hashed n) 0)
 
 module _ (w : ℕ) where
   dp-name : T (counting (dpName w))
@@ -46,11 +46,11 @@ module _ (w : ℕ) where
       (at-each (λ k. counting (getD (LSLS ∷ LSRS ∷ ASRS ∷ RORS ∷ []) k 0)) 4 tt (field w 5 2) (small w 5 2))
 
 module _ (n : ℕ) (t : T (counting n)) where
-  signs : patterned n ≡ false
-  signs = not-true (patterned n) (passes _ (right (ordinary n) (not (patterned n)) t))
+  signs : hashed n ≡ 0
+  signs = eqb→eq (hashed n) 0 (right (ordinary n) (eqb (hashed n) 0) t)
 
   under : (w : ℕ) → eqb (field w 28 4) 15 ≡ false → (flow : Flow) → Under w n flow
-  under w c = by-name w n c (left (ordinary n) (not (patterned n)) t)
+  under w c = by-name w n c (left (ordinary n) (eqb (hashed n) 0) t)
 
 -- a count of 32 bits
 count-small : (unsigned : Bool) (v : ℕ) → v < 2 ^ 32 → natAbs (countOf unsigned v) < 2 ^ 32
@@ -134,7 +134,7 @@ module _ (w addr : ℕ) (c : eqb (field w 28 4) 15 ≡ false) where
   turn = omega (arith, small imm12 8 4)
 
   -- an immediate, after one operand and after two
-  module _ {name : ℕ} {flow : Flow} (plain : patterned name ≡ false) (under : Under w name flow) (aimed : (ops : List Operand) → Aimed ops flow) (unsigned : Bool) where
+  module _ {name : ℕ} {flow : Flow} (plain : hashed name ≡ 0) (under : Under w name flow) (aimed : (ops : List Operand) → Aimed ops flow) (unsigned : Bool) where
     one-value : (a : Operand) → Sound false name a → Good addr (answer w addr name flow (a ∷ immOf imm12 unsigned))
     one-value a s =
         either (λ ops. Good addr (answer w addr name flow (a ∷ ops))) (leastOf imm12)
@@ -147,7 +147,7 @@ module _ (w addr : ℕ) (c : eqb (field w 28 4) 15 ≡ false) where
         (row3 w under s t (plain, value unsigned) (aimed _))
         (row4 w under s t (plain, byte) (plain, turn) (aimed _))
 
-  no-pattern : patterned (dpName w) ≡ false
+  no-pattern : hashed (dpName w) ≡ 0
   no-pattern = signs (dpName w) (dp-name w)
 
   operation-good : Good addr (operationOf w addr)

@@ -13,7 +13,7 @@ use Rattle.insn.specs.declared.Flow.the-variants.{Next}
 use Rattle.insn.specs.declared.Operand.the-variants.{Count}
 use Rattle.arm.specs.Row.{regOf, answer}
 use Rattle.media.specs.Media.{bfxOf, bfOf, divOf, satOf, revOf, rotateOf, extendOf, mediaOf}
-use Rattle.spelling.proofs.Formed.{reg, Good, patterned, Under, either, choice, at, no-row, row1, row2, row3, row4}
+use Rattle.spelling.proofs.Formed.{reg, Good, hashed, Under, either, choice, at, no-row, row1, row2, row3, row4}
 
 module _ (w addr : ℕ) (c : eqb (field w 28 4) 15 ≡ false) where
   lsb : field w 7 5 < 2 ^ 32
@@ -21,7 +21,7 @@ module _ (w addr : ℕ) (c : eqb (field w 28 4) 15 ≡ false) where
 
   -- a name of the group
   module _ (n : ℕ) (under : Under w n Next) where
-    bfx : patterned n ≡ true → Good addr (bfxOf w addr n)
+    bfx : hashed n ≡ 1 → Good addr (bfxOf w addr n)
     bfx pattern =
         at (field w 5 2) 2 (row4 w under (reg w 12) (reg w 0) (pattern, lsb) (pattern, omega (arith, small w 16 5)) tt) no-row
 
@@ -31,7 +31,7 @@ module _ (w addr : ℕ) (c : eqb (field w 28 4) 15 ≡ false) where
     rev : Good addr (revOf w addr n)
     rev = at (field w 16 4) 15 (at (field w 8 4) 15 (row2 w under (reg w 12) (reg w 0) tt) no-row) no-row
 
-    sat : patterned n ≡ false → (number : ℕ) → number < 2 ^ 32 → Good addr (satOf w addr n number)
+    sat : hashed n ≡ 0 → (number : ℕ) → number < 2 ^ 32 → Good addr (satOf w addr n number)
     sat count number fits =
         either (λ o. Good addr (answer w addr n Next (regOf w 12 ∷ Count (pos number) ∷ regOf w 0 ∷ o ∷ []))) (eqb (field w 6 1) 1)
         (row4 w under (reg w 12) (count, fits) (reg w 0) (refl, either (λ a. a < 33) (eqb (field w 7 5) 0) (lit< tt) few) tt)

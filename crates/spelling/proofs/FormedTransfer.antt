@@ -15,8 +15,8 @@ use Rattle.insn.specs.declared.Operand.{Operand}
 use Rattle.arm.specs.Row.{answer}
 use Rattle.transfer.specs.Block.{nameOf, flowOf, stackOf, multipleOf, blockOf}
 use Rattle.transfer.specs.Branch.{targetFrom, branchOf}
-use Rattle.transfer.specs.Unconditional.{preloadSlot, memoryOf, unconditionalOf}
-use Rattle.spelling.proofs.Formed.{reg, Good, Sound, Aimed, decimalFor, ordinary, by-name, either, choice, at, no-row, row1, row2}
+use Rattle.transfer.specs.Unconditional.{barrierSlot, barrierOf, preloadSlot, memoryOf, unconditionalOf}
+use Rattle.spelling.proofs.Formed.{reg, Good, Sound, Aimed, decimalFor, ordinary, by-name, either, choice, at, no-row, row0, row1, row2}
 use Rattle.spelling.proofs.FormedLdst.{disp-small}
 
 target-small : (w addr extra : ℕ) → targetFrom w addr extra < 2 ^ 32
@@ -72,12 +72,21 @@ module _ (w addr : ℕ) where
   pub unconditional-good : eqb (field w 28 4) 15 ≡ true → Good addr (unconditionalOf w addr)
   unconditional-good c =
       at (field w 25 3) 5 (row1 w (tt, c) (target-small w addr (field w 24 1 * 2)) refl)
+      (choice (barrierSlot w) barrier
       (choice (preloadSlot w)
       (either (λ n. Good addr (answer w addr n Next (memoryOf w ∷ []))) (eqb (field w 22 1) 0)
-      (row1 w (tt, c) (preload PLD refl) tt)
-      (row1 w (tt, c) (preload PLDW refl) tt))
-      no-row)
+      (row1 w (tt, c) (preload PLDW refl) tt)
+      (row1 w (tt, c) (preload PLD refl) tt))
+      no-row))
     where
+      barrier : Good addr (barrierOf w addr)
+      barrier =
+          at (field w 4 4) 1 (row0 w (tt, c) tt)
+          (at (field w 4 4) 4 (row1 w (tt, c) (refl, small w 0 4) tt)
+          (at (field w 4 4) 5 (row1 w (tt, c) (refl, small w 0 4) tt)
+          (at (field w 4 4) 6 (row1 w (tt, c) (refl, small w 0 4) tt)
+          no-row)))
+
       preload : (name : ℕ) → false ≡ decimalFor name Offset → Sound true name (memoryOf w)
       preload name plain =
           (refl, record { base = reg w 16; index = tt; disp = disp-small w (field w 0 12) (small w 0 12); size = lit< tt; decimal = plain; minus-zero = λ e. absurd (subst (λ (x : Bool). T (not x)) e tt) })

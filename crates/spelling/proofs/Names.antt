@@ -9,6 +9,7 @@ use lib.Dec.{eqb, ltb}
 use lib.ListN.{length, take, drop, length-append}
 use lib.Seq.{take-at, drop-at}
 use Rattle.word.specs.Choice.{pick, by-test}
+use Rattle.insn.specs.Name.{NAMES}
 use Rattle.insn.specs.declared.Cond.{Cond}
 use Rattle.spelling.specs.Names.{roots, suffixes, entry}
 use Rattle.spelling.specs.Line.{nameOf}
@@ -27,25 +28,25 @@ written = take 14 suffixes
 
 -- the condition and the root of a name: a root before a suffix, or a root alone
 unfoldable pub conditionFrom : List ℕ → ℕ
-conditionFrom text = pick (ltb (find roots (front text)) 129) (find written (back text)) 14
+conditionFrom text = pick (ltb (find roots (front text)) NAMES) (find written (back text)) 14
 
 unfoldable pub nameFrom : List ℕ → ℕ
 nameFrom text = pick (eqb (conditionFrom text) 14) (find roots text) (find roots (front text))
 
-roots-found : (n : ℕ) → n < 129 → find roots (entry roots n) ≡ n
-roots-found = found roots 129 tt
+roots-found : (n : ℕ) → n < NAMES → find roots (entry roots n) ≡ n
+roots-found = found roots NAMES tt
 
 -- no root is a root with a suffix
-alone : (n : ℕ) → n < 129 → conditionFrom (entry roots n) ≡ 14
+alone : (n : ℕ) → n < NAMES → conditionFrom (entry roots n) ≡ 14
 unfolding conditionFrom
-alone = agrees (λ n. conditionFrom (entry roots n)) (λ n. 14) 129 tt
+alone = agrees (λ n. conditionFrom (entry roots n)) (λ n. 14) NAMES tt
 
-root-alone : (n : ℕ) → n < 129 → nameFrom (entry roots n) ≡ n
+root-alone : (n : ℕ) → n < NAMES → nameFrom (entry roots n) ≡ n
 unfolding nameFrom
 root-alone n h = rw (alone n h) (roots-found n h)
 
 -- a root with one of the suffixes that are written
-module _ (n c : ℕ) (h : n < 129) (k : c < 14) where
+module _ (n c : ℕ) (h : n < NAMES) (k : c < 14) where
   two : length (entry suffixes c) ≡ 2
   two = agrees (λ n. length (entry suffixes n)) (λ n. 2) 14 tt c k
 
@@ -63,7 +64,7 @@ module _ (n c : ℕ) (h : n < 129) (k : c < 14) where
 
   condition-written : conditionFrom (entry roots n ++ entry suffixes c) ≡ c
   unfolding conditionFrom
-  condition-written = rw (before, after, roots-found n h, lt-ltb n 129 h) suffixed
+  condition-written = rw (before, after, roots-found n h, lt-ltb n NAMES h) suffixed
 
   name-written : nameFrom (entry roots n ++ entry suffixes c) ≡ n
   unfolding nameFrom
@@ -79,7 +80,7 @@ unwritten c h most = by-test (eqb c 14) (λ e. rw (eqb-true c 14 e)) (λ e. rw (
     always : (c ≡ 14 → ⊥) → c ≡ 15
     always e = omega arith
 
-module _ (n : ℕ) (c : Cond) (h : n < 129) (k : c .0 < 16) where
+module _ (n : ℕ) (c : Cond) (h : n < NAMES) (k : c .0 < 16) where
   bare : 14 ≤ c .0 → entry roots n ++ entry suffixes (c .0) ≡ entry roots n
   bare most = ap (λ (xs : List ℕ). entry roots n ++ xs) (unwritten (c .0) k most) ∙ append-nil (entry roots n)
 
@@ -97,7 +98,7 @@ module _ (n : ℕ) (c : Cond) (h : n < 129) (k : c .0 < 16) where
       (λ e. name-written n (c .0) h (ltb-true (c .0) 14 e))
       (λ e. ap nameFrom (bare (ltb-false (c .0) 14 e)) ∙ root-alone n h)
 
-pub names-differ : (n m : ℕ) (c d : Cond) → n < 129 → m < 129 → c .0 < 15 → d .0 < 15 → nameOf n c ≡ nameOf m d → (n ≡ m) × (c ≡ d)
+pub names-differ : (n m : ℕ) (c d : Cond) → n < NAMES → m < NAMES → c .0 < 15 → d .0 < 15 → nameOf n c ≡ nameOf m d → (n ≡ m) × (c ≡ d)
 names-differ n m c d h h′ k k′ e =
     (sym (name-back n c h (omega arith)) ∙ ap nameFrom e ∙ name-back m d h′ (omega arith), ap (λ (x : ℕ). record { 0 = x }) conditions)
   where

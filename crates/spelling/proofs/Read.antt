@@ -20,18 +20,18 @@ use Rattle.insn.specs.declared.Index.{Index}
 use Rattle.insn.specs.declared.Index.the-variants.{Absent, Left}
 use Rattle.insn.specs.declared.Mem.{Mem}
 use Rattle.insn.specs.declared.Operand.{Operand}
-use Rattle.insn.specs.declared.Operand.the-variants.{Empty, Register, Shifted, ShiftBy, SaturateShift, Rotate, Count, Number, StatusMask, StatusSource, WriteBack, List as RegisterList, Address, Memory}
+use Rattle.insn.specs.declared.Operand.the-variants.{Empty, Register, Shifted, ShiftBy, SaturateShift, Rotate, Count, Number, StatusMask, StatusSource, WriteBack, List as RegisterList, Address, Memory, Option}
 use Rattle.insn.specs.declared.Reg.{Reg}
 use Rattle.insn.specs.declared.Shift.{Shift}
 use Rattle.insn.specs.declared.Shift.the-variants.{Lsl, Lsr, Asr, Ror}
 use Rattle.insn.specs.declared.Status.{Status}
 use Rattle.insn.specs.declared.Status.the-variants.{Apsr, Spsr}
 use Rattle.arm.specs.Shifts as Kind
-use Rattle.spelling.specs.Names.{masks, shifts, sources, registers, entry}
+use Rattle.spelling.specs.Names.{masks, shifts, sources, barriers, registers, entry}
 use Rattle.spelling.specs.Line.{registerOf, shiftOf, indexOf, displacementOf, modeOf, memoryOf, operandOf}
 use Rattle.spelling.proofs.Cut.{all-cat, pieces, cut, uncut}
 use Rattle.spelling.proofs.Digits.{first, numberFrom, signedFrom, minusZeroFrom, decimal-back, signed-back, not-minus-zero, hex-back, hex-length}
-use Rattle.spelling.proofs.Formed.{Held, Indexed, patterned, decimalFor, Sound}
+use Rattle.spelling.proofs.Formed.{Held, Indexed, hashed, decimalFor, Sound}
 use Rattle.spelling.proofs.Tables.{agrees, find, found}
 use Rattle.spelling.proofs.Clean.{plain, clean, clean-lacks, cut-clean, uncut-clean, isWord, lead, word-clean, register-word, mask-word, shift-word, register-clean, shift-clean, decimal-clean, mode-clean, displacement-clean, index-lacks}
 
@@ -83,16 +83,16 @@ memoryFrom name ps =
       «minus_zero» = minusZeroFrom (getD ps 2 []);
     }
 
--- a word by itself: a register, a mask or a status register; or a register with a mark behind it
+-- a word by itself: a register, a mask, a status register or an option; or a register with a mark behind it
 abbrev plainWords : List String
-plainWords = registers ++ masks ++ sources
+plainWords = registers ++ masks ++ sources ++ barriers
 
 abbrev statusFrom : ℕ → Status
 statusFrom n = pick (eqb n 0) Apsr Spsr
 
 abbrev plainFrom : ℕ → Operand
 plainFrom n =
-    pick (ltb n 16) (Register (record { 0 = n })) (pick (ltb n 48) (StatusMask (n - 16)) (StatusSource (statusFrom (n - 48))))
+    pick (ltb n 16) (Register (record { 0 = n })) (pick (ltb n 48) (StatusMask (n - 16)) (pick (ltb n 50) (StatusSource (statusFrom (n - 48))) (Option (n - 50))))
 
 abbrev wordFrom : List (List ℕ) → Operand
 wordFrom [] = Empty
@@ -112,10 +112,15 @@ listFrom (x ∷ []) = wordFrom (pieces (code "!") x)
 listFrom (x ∷ y ∷ []) = pairFrom x y
 listFrom (x ∷ y ∷ z ∷ _) = Shifted (registerFrom x) (shiftFrom y) (numberFrom 10 z)
 
--- an operand behind its first byte
+-- an operand behind a `#`, and behind its first byte
+abbrev hashFrom : ℕ → List ℕ → Operand
+hashFrom kind rest =
+    pick (eqb kind 0) (Count (signedFrom rest))
+    (pick (eqb kind 1) (Number (numberFrom 10 rest)) (Option (find barriers (code "#" ∷ rest))))
+
 abbrev markedFrom : ℕ → ℕ → List ℕ → Operand
 markedFrom name b rest =
-    pick (eqb b (code "#")) (pick (patterned name) (Number (numberFrom 10 rest)) (Count (signedFrom rest)))
+    pick (eqb b (code "#")) (hashFrom (hashed name) rest)
     (pick (eqb b (code "{")) (RegisterList (numberFrom 16 (take 4 rest)))
     (pick (eqb b (code "@")) (Address (numberFrom 16 rest))
     (Memory (memoryFrom name (pieces (code ":") rest)))))
@@ -217,13 +222,43 @@ module _ (name : ℕ) where
   unfolding plain
   rotate n h = by-amount (bytes "ror") n refl h
 
-  count : (z : ℤ) → patterned name ≡ false → natAbs z < 2 ^ 32 → operandFrom name (code "#" ∷ signedOf z) ≡ Count z
+  count : (z : ℤ) → hashed name ≡ 0 → natAbs z < 2 ^ 32 → operandFrom name (code "#" ∷ signedOf z) ≡ Count z
   unfolding plain
   count z signs h = by-mark name (code "#") (signedOf z) refl ∙ rw signs (ap Count (signed-back z (omega arith)))
 
-  number : (n : ℕ) → patterned name ≡ true → n < 2 ^ 32 → operandFrom name (code "#" ∷ decimalOf n) ≡ Number n
+  number : (n : ℕ) → hashed name ≡ 1 → n < 2 ^ 32 → operandFrom name (code "#" ∷ decimalOf n) ≡ Number n
   unfolding plain
   number n pattern h = by-mark name (code "#") (decimalOf n) refl ∙ rw pattern (ap Number (decimal-back n (omega arith)))
+
+  -- an option's name is a word, or a number behind a `#`
+  module _ (n : ℕ) (numbered : hashed name ≡ 2) (h : n < 16) where
+    abbrev text : List ℕ
+    text = entry barriers n
+
+    word : isWord text ≡ true → operandFrom name text ≡ Option n
+    unfolding plain
+    word e =
+        alone text e
+        ∙ rw (known, le-ltb (50 + n) 16 (omega arith), le-ltb (50 + n) 48 (omega arith), le-ltb (50 + n) 50 (omega arith)) (ap Option back)
+      where
+        known : find plainWords text ≡ 50 + n
+        known = simp e at (agrees (λ n. pick (isWord (entry barriers n)) (find plainWords (entry barriers n)) (50 + n)) (λ n. 50 + n) 16 tt n h)
+
+        back : 50 + n - 50 ≡ n
+        back = omega arith
+
+    behind : isWord text ≡ false → operandFrom name text ≡ Option n
+    unfolding operandFrom plain
+    behind e = rw (hash, numbered) (ap Option known)
+      where
+        hash : first text ≡ code "#"
+        hash = simp e at (agrees (λ n. pick (isWord (entry barriers n)) (code "#") (first (entry barriers n))) (λ n. code "#") 16 tt n h)
+
+        known : find barriers (code "#" ∷ drop 1 text) ≡ n
+        known = simp e at (agrees (λ n. pick (isWord (entry barriers n)) n (find barriers (code "#" ∷ drop 1 (entry barriers n)))) (λ n. n) 16 tt n h)
+
+    option : operandFrom name (entry barriers n) ≡ Option n
+    option = by-test (isWord text) word behind
 
   list : (n : ℕ) → n < 2 ^ 16 → operandFrom name (code "{" ∷ hexOf 4 n ++ code "}" ∷ []) ≡ RegisterList n
   unfolding plain
@@ -300,3 +335,4 @@ operand-back last name (WriteBack r) s = write-back name r s
 operand-back last name (RegisterList n) s = list name n s
 operand-back last name (Address n) s = address name n s
 operand-back last name (Memory m) s = memory-back name m (s .1)
+operand-back last name (Option n) s = option name n (s .0) (s .1)

@@ -9,7 +9,7 @@ use lib.ListN.{length}
 use Rattle.insn.specs.Answer.{places}
 use Rattle.insn.specs.declared.Insn.{Insn}
 use Rattle.insn.specs.declared.Operand.{Operand}
-use Rattle.insn.specs.declared.Operand.the-variants.{Empty, Register, Shifted, ShiftBy, SaturateShift, Rotate, Count, Number, StatusMask, StatusSource, WriteBack, List as RegisterList, Address, Memory}
+use Rattle.insn.specs.declared.Operand.the-variants.{Empty, Register, Shifted, ShiftBy, SaturateShift, Rotate, Count, Number, StatusMask, StatusSource, WriteBack, List as RegisterList, Address, Memory, Option}
 use Rattle.spelling.specs.Line.{nameOf, operandOf, placeOf, placesOf, flowOf, insnText}
 use Rattle.spelling.proofs.Formed.{Sound, Laid, Formed}
 
@@ -35,6 +35,7 @@ module _ (last : Bool) (name : ℕ) where
   standing (RegisterList n) s = refl
   standing (Address n) s = refl
   standing (Memory m) s = refl
+  standing (Option n) s = refl
 
 placed : (name : ℕ) (ops : List Operand) → length ops ≤ 4 → Laid name ops → (rest : List ℕ) → placesOf (places ops) ++ rest ≡ spaced ops rest
 unfolding placeOf

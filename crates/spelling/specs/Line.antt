@@ -14,13 +14,13 @@ use Rattle.insn.specs.declared.AddrMode.{AddrMode}
 use Rattle.insn.specs.declared.AddrMode.the-variants.{Offset, PreIndex, PostIndex}
 use Rattle.insn.specs.declared.Mem.{Mem}
 use Rattle.insn.specs.declared.Operand.{Operand}
-use Rattle.insn.specs.declared.Operand.the-variants.{Empty, Register, Shifted, ShiftBy, SaturateShift, Rotate, Count, Number, StatusMask, StatusSource, WriteBack, List as RegisterList, Address, Memory}
+use Rattle.insn.specs.declared.Operand.the-variants.{Empty, Register, Shifted, ShiftBy, SaturateShift, Rotate, Count, Number, StatusMask, StatusSource, WriteBack, List as RegisterList, Address, Memory, Option}
 use Rattle.insn.specs.declared.Place.{Place}
 use Rattle.insn.specs.declared.Flow.{Flow}
 use Rattle.insn.specs.declared.Insn.{Insn}
 use Rattle.insn.specs.declared.Decoded.{Decoded}
 use Rattle.a32.specs.Decode.{decodeOf}
-use Rattle.spelling.specs.Names.{roots, suffixes, masks, shifts, sources, registers, flows, entry}
+use Rattle.spelling.specs.Names.{roots, suffixes, masks, shifts, sources, barriers, registers, flows, entry}
 
 -- "A name is its root, then eq ne hs lo mi pl vs vc hi ls ge lt gt le, then nothing for 14 and 15"
 unfoldable pub nameOf : ℕ → Cond → List ℕ
@@ -58,7 +58,7 @@ memoryOf m =
     bytes "]"
 
 -- "write-back adds `!`; shifted `r2,lsr,3`; shift alone `asr,32`; by register `lsl,r3`; numbers `#`; rotate `ror,8`; list four hex
--- digits in braces; address `@` and eight"
+-- digits in braces; address `@` and eight"; 02, P1: the option "is spelled from the source's BARRIERS table"
 unfoldable pub operandOf : Operand → List ℕ
 operandOf Empty = []
 operandOf (Register r) = registerOf r
@@ -74,6 +74,7 @@ operandOf (WriteBack r) = registerOf r ++ bytes "!"
 operandOf (RegisterList n) = bytes "{" ++ hexOf 4 n ++ bytes "}"
 operandOf (Address n) = bytes "@" ++ hexOf 8 n
 operandOf (Memory m) = memoryOf m
+operandOf (Option n) = entry barriers n
 
 -- "one space between": before each operand; an unused place has none
 unfoldable pub placeOf : Operand → List ℕ

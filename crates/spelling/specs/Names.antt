@@ -25,7 +25,7 @@ roots =
     "sxtab16" ∷ "sxtb" ∷ "sxtab" ∷ "sxth" ∷ "sxtah" ∷ "uxtb16" ∷ "uxtab16" ∷ "uxtb" ∷
     "uxtab" ∷ "uxth" ∷ "uxtah" ∷ "ldmda" ∷ "ldm" ∷ "ldmdb" ∷ "ldmib" ∷ "stmda" ∷
     "stm" ∷ "stmdb" ∷ "stmib" ∷ "pop" ∷ "push" ∷ "bl" ∷ "b" ∷ "pld" ∷
-    "pldw" ∷
+    "pldw" ∷ "clrex" ∷ "dsb" ∷ "dmb" ∷ "isb" ∷
     []
 
 -- by condition: "eq ne hs lo mi pl vs vc hi ls ge lt gt le, then nothing for 14 and 15"
@@ -58,6 +58,13 @@ shifts =
 abbrev pub sources : List String
 sources =
     "apsr" ∷ "spsr" ∷
+    []
+
+-- by 3:0: BARRIERS of mod.rs
+abbrev pub barriers : List String
+barriers =
+    "#0x0" ∷ "oshld" ∷ "oshst" ∷ "osh" ∷ "#0x4" ∷ "nshld" ∷ "nshst" ∷ "nsh" ∷
+    "#0x8" ∷ "ishld" ∷ "ishst" ∷ "ish" ∷ "#0xc" ∷ "ld" ∷ "st" ∷ "sy" ∷
     []
 
 -- "Registers r0 to r12 sp lr pc"

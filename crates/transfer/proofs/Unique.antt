@@ -1,23 +1,32 @@
 -- No second result fits a contract. Each line is about the contract itself, as the check reads it from the source.
 -- Assumes nothing.
-use mathlib.Core.Path.{_≡_, _∙_, sym}
+use mathlib.Core.Path.{_∙_, sym}
+use Rattle.word.specs.Only.{Only}
 use Rattle.transfer.proofs.block.block.Reads as block
 use Rattle.transfer.proofs.branch.branch.Reads as branch
 use Rattle.transfer.proofs.branch.going.Reads as going
 use Rattle.transfer.proofs.branch.branch_target.Reads as branch-target
 use Rattle.transfer.proofs.unconditional.unconditional.Reads as unconditional
+use Rattle.transfer.proofs.unconditional.is_barrier.Reads as is-barrier
+use Rattle.transfer.proofs.unconditional.is_preload.Reads as is-preload
 
-pub block-only : (κs : _) (a : _) (r r′ : _) (s s′ : _) → block.Post κs a r s → block.Post κs a r′ s′ → r ≡ r′
+pub block-only : Only block.Post
 block-only κs a r r′ s s′ p q = p ∙ sym q
 
-pub branch-only : (κs : _) (a : _) (r r′ : _) (s s′ : _) → branch.Post κs a r s → branch.Post κs a r′ s′ → r ≡ r′
+pub branch-only : Only branch.Post
 branch-only κs a r r′ s s′ p q = p ∙ sym q
 
-pub going-only : (κs : _) (a : _) (r r′ : _) (s s′ : _) → going.Post κs a r s → going.Post κs a r′ s′ → r ≡ r′
+pub going-only : Only going.Post
 going-only κs a r r′ s s′ p q = p ∙ sym q
 
-pub branch-target-only : (κs : _) (a : _) (r r′ : _) (s s′ : _) → branch-target.Post κs a r s → branch-target.Post κs a r′ s′ → r ≡ r′
+pub branch-target-only : Only branch-target.Post
 branch-target-only κs a r r′ s s′ p q = p ∙ sym q
 
-pub unconditional-only : (κs : _) (a : _) (r r′ : _) (s s′ : _) → unconditional.Post κs a r s → unconditional.Post κs a r′ s′ → r ≡ r′
+pub unconditional-only : Only unconditional.Post
 unconditional-only κs a r r′ s s′ p q = p ∙ sym q
+
+pub is-barrier-only : Only is-barrier.Post
+is-barrier-only κs a r r′ s s′ p q = p ∙ sym q
+
+pub is-preload-only : Only is-preload.Post
+is-preload-only κs a r r′ s s′ p q = p ∙ sym q

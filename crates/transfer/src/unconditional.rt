@@ -15,15 +15,18 @@ use ldst::mem::disp;
 use word::bit;
 use word::bits;
 ghost use mathlib.Core.Path.{_≡_};
-ghost use Rattle.transfer.specs.Unconditional.{unconditionalOf, blxOf, preloadSlot, preloadOf, memoryOf, preloadName};
+ghost use Rattle.transfer.specs.Unconditional.{unconditionalOf, blxOf, barrierSlot, barrierOf, optionedOf, preloadSlot, preloadOf, memoryOf, preloadName};
 
-/// Condition 15 is a second instruction space: `pld`, and the `blx` that changes instruction set.
+/// Condition 15 is a second instruction space: the barriers, `pld`, and the `blx` that changes instruction set.
 pub fn unconditional(w: u32, addr: u64) -> Decoded
     ensures { λ r. ⌜ r ≡ unconditionalOf w addr ⌝ }
 {
     let op = bits(w, 27, 25);
     if op == 0b101 {
         return blx(w, addr);
+    }
+    if is_barrier(w) {
+        return barrier(w, addr);
     }
     if is_preload(w) {
         preload(w, addr)
@@ -40,15 +43,43 @@ fn blx(w: u32, addr: u64) -> Decoded
     going(w, addr, name::BLX, Flow::Call(to), to)
 }
 
+/// The barriers and `clrex`.
+pub fn is_barrier(w: u32) -> bool
+    ensures { λ r. ⌜ r ≡ barrierSlot w ⌝ }
+{
+    bits(w, 27, 8) == 0x57ff0
+}
+
+fn barrier(w: u32, addr: u64) -> Decoded
+    ensures { λ r. ⌜ r ≡ barrierOf w addr ⌝ }
+{
+    let op = bits(w, 7, 4);
+    match op {
+        0b0001 => at(w, addr, name::CLREX, Flow::Next).accept(),
+        0b0100 => optioned(w, addr, name::DSB),
+        0b0101 => optioned(w, addr, name::DMB),
+        0b0110 => optioned(w, addr, name::ISB),
+        _ => refuse(NO_ROW),
+    }
+}
+
+/// A barrier of an option.
+fn optioned(w: u32, addr: u64, name: u16) -> Decoded
+    ensures { λ r. ⌜ r ≡ optionedOf w addr name ⌝ }
+{
+    at(w, addr, name, Flow::Next).with(0, Operand::Option(bits(w, 3, 0) as u8))
+        .accept()
+}
+
 /// The preloads of an offset.
-fn is_preload(w: u32) -> bool
+pub fn is_preload(w: u32) -> bool
     ensures { λ r. ⌜ r ≡ preloadSlot w ⌝ }
 {
     let op = bits(w, 27, 24);
     let rd = bits(w, 15, 12);
-    let by = bit(w, 4);
+    let kind = bits(w, 21, 20);
     if op == 0b0101 {
-        if rd == 15 { by == 0 } else { false }
+        if rd == 15 { kind == 0b01 } else { false }
     } else {
         false
     }
@@ -65,8 +96,8 @@ fn preload(w: u32, addr: u64) -> Decoded
 fn preload_name(w: u32) -> u16
     ensures { λ r. ⌜ r ≡ preloadName w ⌝ }
 {
-    let write = bit(w, 22);
-    if write == 0 { name::PLD } else { name::PLDW }
+    let read = bit(w, 22);
+    if read == 0 { name::PLDW } else { name::PLD }
 }
 
 fn memory(w: u32) -> Operand

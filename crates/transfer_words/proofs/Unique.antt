@@ -6,6 +6,7 @@ use Rattle.transfer_words.proofs.block_word.Reads as block-word
 use Rattle.transfer_words.proofs.branch_word.Reads as branch-word
 use Rattle.transfer_words.proofs.blx_word.Reads as blx-word
 use Rattle.transfer_words.proofs.preload_word.Reads as preload-word
+use Rattle.transfer_words.proofs.barrier_word.Reads as barrier-word
 
 pub block-word-only : Only block-word.Post
 block-word-only κs a r r′ s s′ p q = p ∙ sym q
@@ -18,3 +19,6 @@ blx-word-only κs a r r′ s s′ p q = p ∙ sym q
 
 pub preload-word-only : Only preload-word.Post
 preload-word-only κs a r r′ s s′ p q = p ∙ sym q
+
+pub barrier-word-only : Only barrier-word.Post
+barrier-word-only κs a r r′ s s′ p q = p ∙ sym q

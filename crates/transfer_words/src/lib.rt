@@ -1,9 +1,11 @@
-//! The word of a block transfer, a branch, an unconditional blx or a preload, from its answer.
+//! The word of a block transfer, a branch, an unconditional blx, a preload or a barrier, from its answer.
 use insn::Insn;
 use insn::name;
 use parts::read::WRITE_BACK;
+use parts::read::amount_at;
 use parts::read::at;
 use parts::read::cond;
+use parts::read::entry;
 use parts::read::is_at;
 use parts::read::number_at;
 use parts::read::past;
@@ -14,7 +16,7 @@ ghost use mathlib.Core.Path.{_≡_};
 ghost use Prim.Native.Nat.{_%_, _^_};
 ghost use lib.Dec.{eqb};
 ghost use Rattle.word.specs.Choice.{pick};
-ghost use Rattle.insn.specs.Name.{PLDW};
+ghost use Rattle.insn.specs.Name.{PLD};
 ghost use Rattle.parts.specs.Parts as P;
 ghost use Rattle.home.specs.WordTransfer as W;
 
@@ -113,12 +115,12 @@ pub fn blx_word(i: Insn) -> u32
 
 /// Bit 22 of a preload.
 fn preload(n: u16) -> u64
-    ensures { λ r. ⌜ r ≡ pick (eqb n PLDW) 1 0 ⌝ }
+    ensures { λ r. ⌜ r ≡ pick (eqb n PLD) 1 0 ⌝ }
 {
-    if n == name::PLDW { 1 } else { 0 }
+    if n == name::PLD { 1 } else { 0 }
 }
 
-/// displacement 1111 rn 00 W U 0101 cond, from bit 0 up.
+/// displacement 1111 rn 01 R U 0101 cond, from bit 0 up.
 const PRELOAD: [u64; 8] = [12, 4, 4, 2, 1, 1, 4, 4];
 
 pub fn preload_word(i: Insn) -> u32
@@ -131,10 +133,30 @@ pub fn preload_word(i: Insn) -> u32
             f.value,
             15,
             f.reg as u64,
-            0,
+            1,
             preload(i.name),
             up(f),
             5,
+            cond(i),
+        ],
+    )
+}
+
+/// option 7:4 0101 0111 1111 1111 0000 cond, from bit 0 up.
+const BARRIER: [u64; 4] = [4, 4, 20, 4];
+
+/// 7:4 of the names clrex .. isb.
+const BARRIERS: [u64; 4] = [1, 4, 5, 6];
+
+pub fn barrier_word(i: Insn) -> u32
+    ensures { λ r. ⌜ r ≡ W.barrierWord i % 2 ^ 32 ⌝ }
+{
+    join(
+        &BARRIER,
+        &[
+            amount_at(i, 0),
+            entry(&BARRIERS, past(i.name, name::CLREX)),
+            0x57ff0,
             cond(i),
         ],
     )

@@ -73,6 +73,7 @@ fn operand_as(kind: u64, row: &[u64], p: usize) -> Operand
         11 => Operand::List(half(row, p + 5)),
         12 => Operand::Address(word(row, p + 5)),
         13 => Operand::Memory(mem_from(row, p)),
+        14 => Operand::Option(byte(row, p + 3)),
         _ => Operand::Empty,
     }
 }

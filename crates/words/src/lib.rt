@@ -11,6 +11,7 @@ use insn::name;
 use parts::read::ADDRESS;
 use parts::read::COUNT;
 use parts::read::is_at;
+use transfer_words::barrier_word;
 use transfer_words::block_word;
 use transfer_words::blx_word;
 use transfer_words::branch_word;
@@ -80,5 +81,8 @@ pub fn word_of(i: Insn) -> u32
     if n <= name::PUSH {
         return block_word(i);
     }
-    preload_word(i)
+    if n <= name::PLDW {
+        return preload_word(i);
+    }
+    barrier_word(i)
 }

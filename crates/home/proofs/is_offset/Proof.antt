@@ -16,14 +16,18 @@ bit-requires c κs = search needs
 bit-requires-2 : tie.Need-bit-requires-2
 bit-requires-2 c κs = search needs
 
+is-preload-requires : tie.Need-is-preload-requires
+is-preload-requires c κs = search needs
+
 returns : tie.Need-returns
 returns c =
     simp (
-      c .if1 .taken,
-      ← (c .before .bit2 .ensures),
-      ← (c .before .before .bit .ensures),
-      ← (c .before .before .before .bits2 .ensures),
-      ← (c .before .before .before .before .bits .ensures),
+      c .is-preload .ensures,
+      c .before .if1 .taken,
+      ← (c .before .before .bit2 .ensures),
+      ← (c .before .before .before .bit .ensures),
+      ← (c .before .before .before .before .bits2 .ensures),
+      ← (c .before .before .before .before .before .bits .ensures),
     )
 
 returns-2 : tie.Need-returns-2
@@ -69,6 +73,7 @@ is-offset-spec =
     bits-requires-2
     bit-requires
     bit-requires-2
+    is-preload-requires
     returns
     returns-2
     returns-3

@@ -5,6 +5,7 @@ use Prim.Native.Nat.{ℕ, _≤_, _/_, _%_}
 use native.Mathlib.Omega.{arith}
 use lib.ListN.{List·getD-eq-default}
 use Rattle.text.specs.Text.{bytes}
+use Rattle.insn.specs.Name.{NAMES}
 use Rattle.spelling.specs.Names.{roots}
 use Rattle.names.proofs.Table.{spelt}
 use Rattle.names.proofs.Rows.{blanks, blank, of-row, past}
@@ -111,10 +112,13 @@ returns-33 : tie.Need-returns-33
 returns-33 c = of-row 32 (c .before .args .name) tt (c .match .keys33)
 
 returns-34 : tie.Need-returns-34
-returns-34 c =
+returns-34 c = of-row 33 (c .before .args .name) tt (c .match .keys34)
+
+returns-35 : tie.Need-returns-35
+returns-35 c =
     let name = c .before .args .name in
-    let row : 33 ≤ name / 4 = past 33 (name / 4) (c .match .rest) in
-    let beyond : 129 ≤ name = omega (arith, row) in
+    let row : 34 ≤ name / 4 = past 34 (name / 4) (c .match .rest) in
+    let beyond : NAMES ≤ name = omega (arith, row) in
     spelt 8 (blanks 4) tt (name % 4) ∙ blank [] 4 (name % 4) ∙ sym (ap bytes (List·getD-eq-default roots "" beyond))
 
 pub roots-with-spec : {M : Type 1} → statement M
@@ -154,4 +158,5 @@ roots-with-spec =
     returns-31
     returns-32
     returns-33
-    returns-34)
+    returns-34
+    returns-35)

@@ -214,6 +214,13 @@ put-memory-requires : tie.Need-put-memory-requires
 unfolding operandOf
 put-memory-requires c κs = rw (c .before .before .operand13 .given .1) at (c .before .before .before .before .before .pre)
 
+enum-known-operand-14 : tie.Need-enum-known-operand-14
+enum-known-operand-14 c = search needs
+
+put-barrier-requires : tie.Need-put-barrier-requires
+unfolding operandOf
+put-barrier-requires c κs = rw (c .before .before .operand14 .given .1) at (c .before .before .before .before .before .pre)
+
 returns : tie.Need-returns
 unfolding operandOf
 returns c = rw (c .enum-told .given .1) (none _ _)
@@ -356,6 +363,13 @@ returns-14 : tie.Need-returns-14
 unfolding operandOf
 returns-14 c = rw (c .before .before .before .before .before .operand13 .given .1) (c .before .before .put-memory .ensures)
 
+same-length-14 : tie.Need-same-length-14
+same-length-14 c = search needs
+
+returns-15 : tie.Need-returns-15
+unfolding operandOf
+returns-15 c = rw (c .before .before .before .before .before .operand14 .given .1) (c .before .before .put-barrier .ensures)
+
 pub put-operand-spec : {M : Type 1} → statement M
 put-operand-spec =
     tie.close
@@ -408,6 +422,8 @@ put-operand-spec =
     put-hex-requires-2
     enum-known-operand-13
     put-memory-requires
+    enum-known-operand-14
+    put-barrier-requires
     returns
     same-length
     returns-2
@@ -434,4 +450,6 @@ put-operand-spec =
     same-length-12
     returns-13
     same-length-13
-    returns-14)
+    returns-14
+    same-length-14
+    returns-15)

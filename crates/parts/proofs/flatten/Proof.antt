@@ -116,6 +116,12 @@ enum-known-o-13 c = search needs
 memory-requires : tie.Need-memory-requires
 memory-requires c κs = search needs
 
+enum-known-o-14 : tie.Need-enum-known-o-14
+enum-known-o-14 c = search needs
+
+plain-requires-14 : tie.Need-plain-requires-14
+plain-requires-14 c κs = search needs
+
 returns : tie.Need-returns
 returns c = simp (c .plain .ensures, c .before .enum-told .given .1)
 
@@ -171,6 +177,9 @@ returns-13 c = simp (c .plain13 .ensures, c .before .word2 .ensures, c .before .
 returns-14 : tie.Need-returns-14
 returns-14 c = simp (c .memory .ensures, c .before .before .o13 .given .1)
 
+returns-15 : tie.Need-returns-15
+returns-15 c = simp (c .plain14 .ensures, c .before .before .o14 .given .1)
+
 pub flatten-spec : {M : Type 1} → statement M
 flatten-spec =
     tie.close
@@ -212,6 +221,8 @@ flatten-spec =
     plain-requires-13
     enum-known-o-13
     memory-requires
+    enum-known-o-14
+    plain-requires-14
     returns
     returns-2
     returns-3
@@ -225,4 +236,5 @@ flatten-spec =
     returns-11
     returns-12
     returns-13
-    returns-14)
+    returns-14
+    returns-15)

@@ -152,6 +152,15 @@ byte-requires-26 c κs = search needs
 mem-requires : tie.Need-mem-requires
 mem-requires c κs = search needs
 
+enum-known-o-14 : tie.Need-enum-known-o-14
+enum-known-o-14 c = search needs
+
+byte-requires-27 : tie.Need-byte-requires-27
+byte-requires-27 c κs = search needs
+
+byte-requires-28 : tie.Need-byte-requires-28
+byte-requires-28 c κs = search needs
+
 returns : tie.Need-returns
 returns c = simp (c .byte .ensures, c .before .enum-told .given .1)
 
@@ -229,6 +238,9 @@ returns-13 c = simp (c .word2 .ensures, c .before .byte25 .ensures, c .before .b
 returns-14 : tie.Need-returns-14
 returns-14 c = simp (c .mem .ensures, c .before .byte26 .ensures, c .before .before .before .o13 .given .1)
 
+returns-15 : tie.Need-returns-15
+returns-15 c = simp (c .byte28 .ensures, c .before .byte27 .ensures, c .before .before .before .o14 .given .1)
+
 pub operand-spec : {M : Type 1} → statement M
 operand-spec =
     tie.close
@@ -282,6 +294,9 @@ operand-spec =
     enum-known-o-13
     byte-requires-26
     mem-requires
+    enum-known-o-14
+    byte-requires-27
+    byte-requires-28
     returns
     returns-2
     returns-3
@@ -295,4 +310,5 @@ operand-spec =
     returns-11
     returns-12
     returns-13
-    returns-14)
+    returns-14
+    returns-15)

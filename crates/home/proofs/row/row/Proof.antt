@@ -14,22 +14,14 @@ bits-requires-2 c κs = search needs
 bit-requires : tie.Need-bit-requires
 bit-requires c κs = search needs
 
+barrier-row-requires : tie.Need-barrier-row-requires
+barrier-row-requires c κs = search needs
+
 returns : tie.Need-returns
 unfolding rowOf
 returns c =
     simp (
-      c .if2 .taken,
-      c .before .if1 .taken,
-      ← (c .before .before .bit .ensures),
-      ← (c .before .before .before .bits2 .ensures),
-      ← (c .before .before .before .before .bits .ensures),
-    )
-
-returns-2 : tie.Need-returns-2
-unfolding rowOf
-returns-2 c =
-    simp (
-      ne-eqb _ _ (c .if2 .left),
+      c .barrier-row .ensures,
       c .before .if1 .taken,
       ← (c .before .before .bit .ensures),
       ← (c .before .before .before .bits2 .ensures),
@@ -45,12 +37,24 @@ dp-imm-row-requires c κs = search needs
 media-row-requires : tie.Need-media-row-requires
 media-row-requires c κs = search needs
 
+returns-2 : tie.Need-returns-2
+unfolding rowOf
+returns-2 c =
+    simp (
+      c .dp-misc-row .ensures,
+      c .before .match .keys1,
+      ne-eqb _ _ (c .before .before .if1 .left),
+      ← (c .before .before .before .bit .ensures),
+      ← (c .before .before .before .before .bits2 .ensures),
+      ← (c .before .before .before .before .before .bits .ensures),
+    )
+
 returns-3 : tie.Need-returns-3
 unfolding rowOf
 returns-3 c =
     simp (
-      c .dp-misc-row .ensures,
-      c .before .match .keys1,
+      c .dp-imm-row .ensures,
+      c .before .match .keys2,
       ne-eqb _ _ (c .before .before .if1 .left),
       ← (c .before .before .before .bit .ensures),
       ← (c .before .before .before .before .bits2 .ensures),
@@ -61,8 +65,8 @@ returns-4 : tie.Need-returns-4
 unfolding rowOf
 returns-4 c =
     simp (
-      c .dp-imm-row .ensures,
-      c .before .match .keys2,
+      c .if2 .taken,
+      c .before .match .keys3,
       ne-eqb _ _ (c .before .before .if1 .left),
       ← (c .before .before .before .bit .ensures),
       ← (c .before .before .before .before .bits2 .ensures),
@@ -73,20 +77,8 @@ returns-5 : tie.Need-returns-5
 unfolding rowOf
 returns-5 c =
     simp (
-      c .if3 .taken,
-      c .before .match .keys3,
-      ne-eqb _ _ (c .before .before .if1 .left),
-      ← (c .before .before .before .bit .ensures),
-      ← (c .before .before .before .before .bits2 .ensures),
-      ← (c .before .before .before .before .before .bits .ensures),
-    )
-
-returns-6 : tie.Need-returns-6
-unfolding rowOf
-returns-6 c =
-    simp (
       c .media-row .ensures,
-      ne-eqb _ _ (c .before .if3 .left),
+      ne-eqb _ _ (c .before .if2 .left),
       c .before .before .match .keys3,
       ne-eqb _ _ (c .before .before .before .if1 .left),
       ← (c .before .before .before .before .bit .ensures),
@@ -94,9 +86,9 @@ returns-6 c =
       ← (c .before .before .before .before .before .before .bits .ensures),
     )
 
-returns-7 : tie.Need-returns-7
+returns-6 : tie.Need-returns-6
 unfolding rowOf
-returns-7 c =
+returns-6 c =
     simp (
       ne-eqb _ _ (c .match .rest .1),
       ne-eqb _ _ (c .match .rest .0 .1),
@@ -114,13 +106,13 @@ row-spec =
     bits-requires
     bits-requires-2
     bit-requires
+    barrier-row-requires
     returns
-    returns-2
     dp-misc-row-requires
     dp-imm-row-requires
     media-row-requires
+    returns-2
     returns-3
     returns-4
     returns-5
-    returns-6
-    returns-7)
+    returns-6)

@@ -11,8 +11,8 @@ bits-requires c κs = search needs
 bits-requires-2 : tie.Need-bits-requires-2
 bits-requires-2 c κs = search needs
 
-bit-requires : tie.Need-bit-requires
-bit-requires c κs = search needs
+bits-requires-3 : tie.Need-bits-requires-3
+bits-requires-3 c κs = search needs
 
 returns : tie.Need-returns
 unfolding preloadSlot
@@ -20,7 +20,7 @@ returns c =
     simp (
       c .if2 .taken,
       c .before .if1 .taken,
-      ← (c .before .before .bit .ensures),
+      ← (c .before .before .bits3 .ensures),
       ← (c .before .before .before .bits2 .ensures),
       ← (c .before .before .before .before .bits .ensures),
     )
@@ -31,7 +31,7 @@ returns-2 c =
     simp (
       ne-eqb _ _ (c .if2 .left),
       c .before .if1 .taken,
-      ← (c .before .before .bit .ensures),
+      ← (c .before .before .bits3 .ensures),
       ← (c .before .before .before .bits2 .ensures),
       ← (c .before .before .before .before .bits .ensures),
     )
@@ -41,11 +41,11 @@ unfolding preloadSlot
 returns-3 c =
     simp (
       ne-eqb _ _ (c .if1 .left),
-      ← (c .before .bit .ensures),
+      ← (c .before .bits3 .ensures),
       ← (c .before .before .bits2 .ensures),
       ← (c .before .before .before .bits .ensures),
     )
 
 pub is-preload-spec : {M : Type 1} → statement M
 is-preload-spec =
-    tie.close (tie.spec bits-requires bits-requires-2 bit-requires returns returns-2 returns-3)
+    tie.close (tie.spec bits-requires bits-requires-2 bits-requires-3 returns returns-2 returns-3)

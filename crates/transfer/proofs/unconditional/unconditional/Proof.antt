@@ -13,6 +13,22 @@ blx-requires c κs = search needs
 returns : tie.Need-returns
 returns c = simp (c .blx .ensures, c .before .if1 .taken, ← (c .before .before .bits .ensures))
 
+is-barrier-requires : tie.Need-is-barrier-requires
+is-barrier-requires c κs = search needs
+
+barrier-requires : tie.Need-barrier-requires
+barrier-requires c κs = search needs
+
+returns-2 : tie.Need-returns-2
+returns-2 c =
+    simp (
+      c .barrier .ensures,
+      c .before .if2 .taken,
+      ← (c .before .before .is-barrier .ensures),
+      ne-eqb _ _ (c .before .before .before .if1 .left),
+      ← (c .before .before .before .before .bits .ensures),
+    )
+
 is-preload-requires : tie.Need-is-preload-requires
 is-preload-requires c κs = search needs
 
@@ -22,24 +38,28 @@ preload-requires c κs = search needs
 refuse-requires : tie.Need-refuse-requires
 refuse-requires c κs = search needs
 
-returns-2 : tie.Need-returns-2
-returns-2 c =
-    simp (
-      c .preload .ensures,
-      c .before .if2 .taken,
-      ← (c .before .before .is-preload .ensures),
-      ne-eqb _ _ (c .before .before .before .if1 .left),
-      ← (c .before .before .before .before .bits .ensures),
-    )
-
 returns-3 : tie.Need-returns-3
 returns-3 c =
     simp (
-      c .refuse .ensures,
-      c .before .if2 .left,
+      c .preload .ensures,
+      c .before .if3 .taken,
       ← (c .before .before .is-preload .ensures),
-      ne-eqb _ _ (c .before .before .before .if1 .left),
-      ← (c .before .before .before .before .bits .ensures),
+      c .before .before .before .if2 .left,
+      ← (c .before .before .before .before .is-barrier .ensures),
+      ne-eqb _ _ (c .before .before .before .before .before .if1 .left),
+      ← (c .before .before .before .before .before .before .bits .ensures),
+    )
+
+returns-4 : tie.Need-returns-4
+returns-4 c =
+    simp (
+      c .refuse .ensures,
+      c .before .if3 .left,
+      ← (c .before .before .is-preload .ensures),
+      c .before .before .before .if2 .left,
+      ← (c .before .before .before .before .is-barrier .ensures),
+      ne-eqb _ _ (c .before .before .before .before .before .if1 .left),
+      ← (c .before .before .before .before .before .before .bits .ensures),
     )
 
 pub unconditional-spec : {M : Type 1} → statement M
@@ -49,8 +69,11 @@ unconditional-spec =
     bits-requires
     blx-requires
     returns
+    is-barrier-requires
+    barrier-requires
+    returns-2
     is-preload-requires
     preload-requires
     refuse-requires
-    returns-2
-    returns-3)
+    returns-3
+    returns-4)

@@ -1,0 +1,72 @@
+-- `transfer::unconditional::barrier` meets its contract. Assumes nothing.
+use borrow.Author.Needs.{needs}
+use borrow.Author.Tests.{ne-eqb}
+use Rattle.transfer.proofs.unconditional.barrier.Statement.{statement}
+use Rattle.transfer.proofs.unconditional.barrier.Tie as tie
+
+bits-requires : tie.Need-bits-requires
+bits-requires c κs = search needs
+
+at-requires : tie.Need-at-requires
+at-requires c κs = search needs
+
+accept-requires : tie.Need-accept-requires
+accept-requires c κs = search needs
+
+optioned-requires : tie.Need-optioned-requires
+optioned-requires c κs = search needs
+
+optioned-requires-2 : tie.Need-optioned-requires-2
+optioned-requires-2 c κs = search needs
+
+optioned-requires-3 : tie.Need-optioned-requires-3
+optioned-requires-3 c κs = search needs
+
+refuse-requires : tie.Need-refuse-requires
+refuse-requires c κs = search needs
+
+returns : tie.Need-returns
+returns c =
+    simp (
+      c .accept .ensures,
+      c .before .at .ensures,
+      c .before .before .match .keys1,
+      ← (c .before .before .before .bits .ensures),
+    )
+
+returns-2 : tie.Need-returns-2
+returns-2 c = simp (c .optioned .ensures, c .before .match .keys2, ← (c .before .before .bits .ensures))
+
+returns-3 : tie.Need-returns-3
+returns-3 c = simp (c .optioned2 .ensures, c .before .match .keys3, ← (c .before .before .bits .ensures))
+
+returns-4 : tie.Need-returns-4
+returns-4 c = simp (c .optioned3 .ensures, c .before .match .keys4, ← (c .before .before .bits .ensures))
+
+returns-5 : tie.Need-returns-5
+returns-5 c =
+    simp (
+      c .refuse .ensures,
+      ne-eqb _ _ (c .before .match .rest .1),
+      ne-eqb _ _ (c .before .match .rest .0 .1),
+      ne-eqb _ _ (c .before .match .rest .0 .0 .1),
+      ne-eqb _ _ (c .before .match .rest .0 .0 .0 .1),
+      ← (c .before .before .bits .ensures),
+    )
+
+pub barrier-spec : {M : Type 1} → statement M
+barrier-spec =
+    tie.close
+    (tie.spec
+    bits-requires
+    at-requires
+    accept-requires
+    optioned-requires
+    optioned-requires-2
+    optioned-requires-3
+    refuse-requires
+    returns
+    returns-2
+    returns-3
+    returns-4
+    returns-5)
