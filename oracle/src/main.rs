@@ -6,7 +6,6 @@ extern crate self as e5r_core;
 
 mod addr;
 mod answer;
-mod bench;
 mod cores;
 mod damage;
 mod digest;
@@ -57,7 +56,6 @@ modes of the oracle (numbers are hexadecimal, but COUNT and SEED; no SET is ever
   values COUNT SEED    has the proved code encode made-up values
   load COUNT SEED      has the proved code list made-up and damaged sections
   load COUNT SEED PROGRAM ..  runs the program on each instead
-  bench                times the Rust and the proved code
   SET                  FIRST COUNT, or 'branches'";
 
 fn main() -> ExitCode {
@@ -102,7 +100,6 @@ fn run(arguments: &[&str]) -> Result<ExitCode, String> {
             println!("{tally}\n{failures} failures");
             return Ok(success_if(failures == 0));
         }
-        ["bench"] => bench::bench(),
         _ => return Err(USAGE.to_string()),
     }
     Ok(ExitCode::SUCCESS)

@@ -12,8 +12,6 @@ pub struct Proved {
     pub digest: extern "C" fn(h: u64, first: u32, count: u32, address: u64) -> u64,
     /// Decodes a word at an address, and encodes the answer. Gives what `Coded::of` reads.
     pub trip: extern "C" fn(word: u32, address: u64) -> u64,
-    /// Decodes alone: the refusal, and in the word's place the name number.
-    pub named: extern "C" fn(word: u32, address: u64) -> u64,
     /// Encodes the value of a row. Gives what `Coded::of` reads.
     pub encode: fn(row: &Row) -> u64,
     /// Writes the listing of a section to the start of `out`. Gives what `Coded::of` reads, with a
@@ -63,7 +61,6 @@ impl Display for Coded {
 pub const PROVED: Option<Proved> = Some(Proved {
     digest: linked::digest,
     trip: linked::trip,
-    named: linked::named,
     encode: linked::encode,
     listing: linked::listing,
 });
@@ -78,7 +75,6 @@ mod linked {
     unsafe extern "C" {
         pub safe fn digest(h: u64, first: u32, count: u32, address: u64) -> u64;
         pub safe fn trip(word: u32, address: u64) -> u64;
-        pub safe fn named(word: u32, address: u64) -> u64;
         fn brassdozen_encode(row: *const u64, numbers: usize) -> u64;
         fn brassdozen_listing(section: *const u8, bytes: usize, out: *mut u8, room: usize) -> u64;
     }

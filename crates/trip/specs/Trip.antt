@@ -17,7 +17,3 @@ backOf d = pick (eqb (d .refusal) 0) (packedOf (encodeOf (d .insn))) (packed (d 
 -- a word's answer, encoded
 abbrev pub tripOf : ℕ → ℕ → ℕ
 tripOf w addr = backOf (decodeOf w addr)
-
--- a word's answer, by its refusal and its name number alone
-abbrev pub namedOf : ℕ → ℕ → ℕ
-namedOf w addr = packed ((decodeOf w addr) .refusal) ((decodeOf w addr) .insn .name)
