@@ -6,6 +6,7 @@ extern crate self as e5r_core;
 
 mod addr;
 mod answer;
+mod conditions;
 mod cores;
 mod damage;
 mod digest;
@@ -53,6 +54,7 @@ modes of the oracle (numbers are hexadecimal, but COUNT and SEED; no SET is ever
   count [SET]          counts what is accepted and refused, and where the Rust has another answer
   sweep ADDRESS [SET]  counts the same, and compares it with the proved code, word by word
   trip ADDRESS [SET]   has the proved code decode and encode each word, which gives its home word
+  conditions ADDRESS [SET]  holds the words of each condition below 14 beside those of condition 14
   values COUNT SEED    has the proved code encode made-up values
   load COUNT SEED      has the proved code list made-up and damaged sections
   load COUNT SEED PROGRAM ..  runs the program on each instead
@@ -85,6 +87,13 @@ fn run(arguments: &[&str]) -> Result<ExitCode, String> {
             let (tally, differences) = trip::trip(proved()?, hex(address)?, &words::set(set)?);
             println!("{tally}\n{differences} differences");
             return Ok(success_if(differences == 0));
+        }
+        ["conditions", address, set @ ..] => {
+            let set = if set.is_empty() { &["e0000000", "10000000"] } else { set };
+            let (tally, exceptions) =
+                conditions::conditions(proved()?, hex(address)?, &words::set(set)?);
+            println!("{tally}\n{exceptions} exceptions");
+            return Ok(success_if(exceptions == 0));
         }
         ["values", count, seed] => {
             let (tally, failures) = values::values(proved()?, decimal(count)?, decimal(seed)?);

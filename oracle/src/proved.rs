@@ -12,6 +12,8 @@ pub struct Proved {
     pub digest: extern "C" fn(h: u64, first: u32, count: u32, address: u64) -> u64,
     /// Decodes a word at an address, and encodes the answer. Gives what `Coded::of` reads.
     pub trip: extern "C" fn(word: u32, address: u64) -> u64,
+    /// Decodes a word at an address. Gives the refusal; the row of an accepted word is written.
+    pub decode: fn(word: u32, address: u64, row: &mut Row) -> u8,
     /// Encodes the value of a row. Gives what `Coded::of` reads.
     pub encode: fn(row: &Row) -> u64,
     /// Writes the listing of a section to the start of `out`. Gives what `Coded::of` reads, with a
@@ -61,6 +63,7 @@ impl Display for Coded {
 pub const PROVED: Option<Proved> = Some(Proved {
     digest: linked::digest,
     trip: linked::trip,
+    decode: linked::decode,
     encode: linked::encode,
     listing: linked::listing,
 });
@@ -75,12 +78,17 @@ mod linked {
     unsafe extern "C" {
         pub safe fn digest(h: u64, first: u32, count: u32, address: u64) -> u64;
         pub safe fn trip(word: u32, address: u64) -> u64;
+        fn brassdozen_decode(word: u32, address: u64, row: *mut u64, numbers: usize) -> u8;
         fn brassdozen_encode(row: *const u64, numbers: usize) -> u64;
         fn brassdozen_listing(section: *const u8, bytes: usize, out: *mut u8, room: usize) -> u64;
     }
 
     // Safety: a slice of Rattle's is a pointer and how many numbers it points at; it is only read
     // behind a `&`, and only it is written behind a `&mut`.
+
+    pub fn decode(word: u32, address: u64, row: &mut Row) -> u8 {
+        unsafe { brassdozen_decode(word, address, row.as_mut_ptr(), row.len()) }
+    }
 
     pub fn encode(row: &Row) -> u64 {
         unsafe { brassdozen_encode(row.as_ptr(), row.len()) }

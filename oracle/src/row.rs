@@ -9,6 +9,11 @@ const OPERAND: usize = 11;
 
 pub type Row = [u64; HEAD + PLACES * OPERAND];
 
+/// Where the name, the condition and the flow stand.
+pub const NAME: usize = 1;
+pub const CONDITION: usize = 2;
+pub const FLOW: usize = 3;
+
 /// The row of a value.
 pub fn row(value: &Instruction) -> Row {
     let mut row = [0; HEAD + PLACES * OPERAND];

@@ -13,7 +13,8 @@ use lib.Pow as P
 use lib.Pow.{pow-pos, pow-add}
 use Rattle.word.specs.Choice.{pick, both, passes}
 use Rattle.word.specs.Every.{left, right}
-use Rattle.word.specs.Field.{field, put, clear, keeps-above, put-above, within}
+use Rattle.home.specs.Alike.{Alike, low-bits, fields-alike}
+use Rattle.word.specs.Field.{field, put, clear, keeps-above, put-above}
 use Rattle.a32.specs.Decode.{controlOf}
 use Rattle.dp.specs.DpImm.{hintSlot}
 use Rattle.home.specs.Table.{Ignored, table, ignored}
@@ -40,27 +41,12 @@ put-low w lo k v n fits h = from (le-dest (leb→le (lo + k) n (subst T (sym h) 
         (P.mod-pow-add _ d (lo + k)
         ∙ rw (P.high (w / 2 ^ (lo + k)) (lo + k) inner, P.low (w / 2 ^ (lo + k)) (lo + k) inner, P.field w d (lo + k), lower d))
 
--- two words differ in the condition alone
-abbrev pub Alike : ℕ → ℕ → Type 0
-Alike w v = field w 0 28 ≡ field v 0 28
-
-low-bits : (w : ℕ) → field w 0 28 ≡ w % 2 ^ 28
-unfolding field
-low-bits w = rw (div-one w)
-
--- they still do with the same number put into a field of both
+-- two words that differ in the condition alone still do with the same number put into a field of both
 puts-alike : (w v lo k n : ℕ) → ltb n (2 ^ k) ≡ true → leb (lo + k) 28 ≡ true → Alike w v → Alike (put w lo k n) (put v lo k n)
 puts-alike w v lo k n fits h alike =
     low-bits _ ∙ put-low w lo k n 28 fits h
     ∙ ap (λ (x : ℕ). put x lo k n) (sym (low-bits w) ∙ alike ∙ low-bits v)
     ∙ sym (low-bits _ ∙ put-low v lo k n 28 fits h)
-
--- and have the same fields below the condition
-fields-alike : (w v : ℕ) → Alike w v → (lo k : ℕ) → leb (lo + k) 28 ≡ true → field w lo k ≡ field v lo k
-fields-alike w v alike lo k h =
-    sym (ap (λ (p : ℕ). field w p k) (zero-add lo)) ∙ sym (within w 0 28 lo k h)
-    ∙ ap (λ (x : ℕ). field x lo k) alike
-    ∙ within v 0 28 lo k h ∙ ap (λ (p : ℕ). field v p k) (zero-add lo)
 
 module _ (w v : ℕ) (alike : Alike w v) (c : eqb (field w 28 4) 15 ≡ false) (c′ : eqb (field v 28 4) 15 ≡ false) where
   same-row : rowOf w ≡ rowOf v

@@ -1,3 +1,4 @@
+pub mod Alike
 pub mod Table
 pub mod Home
 pub mod WordDp

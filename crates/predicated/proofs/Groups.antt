@@ -1,0 +1,69 @@
+-- What does not read 31:28 can't depend on it: group by group, an answer is that of a word which differs in the condition alone, under its own
+-- condition. Assumes nothing.
+use mathlib.Core.Path.{_≡_, refl}
+use Prim.Native.Nat.{ℕ}
+use lib.Dec.{eqb}
+use Rattle.home.specs.Alike.{Alike, fields-alike}
+use Rattle.word.specs.Choice.{pick, by-test}
+use Rattle.word.specs.Field.{field}
+use Rattle.insn.specs.declared.Decoded.{Decoded}
+use Rattle.arm.specs.Shifts as Shifts
+use Rattle.dp.specs.Names.{dpName, shiftName}
+use Rattle.dp.specs.DpReg.{dpRegOf}
+use Rattle.dp.specs.DpImm.{hintSlot, dpImmOf}
+use Rattle.misc.specs.Misc.{miscOf}
+use Rattle.multiply.specs.Multiply.{multiplyOf}
+use Rattle.multiply.specs.Sync.{syncOf}
+use Rattle.ldst.specs.Mem.{unprivilegedOf, postOf, minusZeroOf}
+use Rattle.ldst.specs.ExtraLdst.{subtractedIndexOf, extraLdstOf}
+use Rattle.ldst.specs.Ldst.{refusedIndexOf, markedOf, ldstOf}
+use Rattle.media.specs.Media.{mediaOf}
+use Rattle.transfer.specs.Block.{stackOf, blockOf}
+use Rattle.transfer.specs.Branch.{targetFrom, branchOf}
+use Rattle.predicated.specs.Predicated.{under}
+use Rattle.predicated.proofs.Laws.{laws}
+
+module _ (w v addr : ℕ) (alike : Alike w v) where
+  -- a row's answer to v is the one to w, under v's condition
+  abbrev Once : (ℕ → ℕ → Decoded) → Type 0
+  Once row = row v addr ≡ under (field v 28 4) (row w addr)
+
+  pub misc : Once miscOf
+  misc = simp (laws, fields-alike w v alike)
+
+  pub multiply : Once multiplyOf
+  multiply = simp (laws, fields-alike w v alike)
+
+  pub sync : Once syncOf
+  sync = simp (laws, fields-alike w v alike)
+
+  pub dp-reg : Once dpRegOf
+  unfolding dpName shiftName Shifts.plainOf Shifts.rrxOf
+  dp-reg = simp (laws, fields-alike w v alike)
+
+  pub dp-imm : Once dpImmOf
+  unfolding dpName hintSlot
+  dp-imm = simp (laws, fields-alike w v alike)
+
+  pub extra-ldst : Once extraLdstOf
+  unfolding unprivilegedOf subtractedIndexOf minusZeroOf
+  extra-ldst = simp (laws, fields-alike w v alike)
+
+  pub ldst : Once ldstOf
+  unfolding unprivilegedOf postOf refusedIndexOf markedOf minusZeroOf
+  ldst = simp (laws, fields-alike w v alike)
+
+  pub media : Once mediaOf
+  media = simp (laws, fields-alike w v alike)
+
+  pub block : Once blockOf
+  unfolding stackOf
+  block = simp (laws, fields-alike w v alike)
+
+  -- the one that reads it: an unlinked b
+  pub branch : Once branchOf
+  unfolding targetFrom
+  branch =
+      by-test (eqb (field w 28 4) 14)
+      (λ e. by-test (eqb (field v 28 4) 14) (λ f. simp (laws, fields-alike w v alike, e, f)) (λ f. simp (laws, fields-alike w v alike, e, f)))
+      (λ e. by-test (eqb (field v 28 4) 14) (λ f. simp (laws, fields-alike w v alike, e, f)) (λ f. simp (laws, fields-alike w v alike, e, f)))

@@ -1,0 +1,55 @@
+-- What an answer under another condition is made of. Assumes nothing.
+use mathlib.Core.Path.{_≡_, refl, sym}
+use mathlib.Core.Bool.{Bool, true, false}
+use Prim.Native.Nat.{ℕ}
+use borrow.Author.Tests.{eqb-true}
+use lib.Dec.{eqb}
+use Rattle.word.specs.Choice.{pick, by-test}
+use Rattle.insn.specs.Answer.{insnOf, accepted, refused}
+use Rattle.insn.specs.declared.Decoded.{Decoded}
+use Rattle.insn.specs.declared.Flow.{Flow}
+use Rattle.insn.specs.declared.Insn.{Insn}
+use Rattle.predicated.specs.Predicated.{flowAt, under}
+
+module _ (c : ℕ) where
+  -- it passes through a choice, and so does a flow
+  pub through : (b : Bool) (x y : Decoded) → under c (pick b x y) ≡ pick b (under c x) (under c y)
+  through true x y = refl
+  through false x y = refl
+
+  pub flows-through : (b : Bool) (f g : Flow) → flowAt c (pick b f g) ≡ pick b (flowAt c f) (flowAt c g)
+  flows-through true f g = refl
+  flows-through false f g = refl
+
+  -- a refusal stays as it is, and an instruction is given the condition
+  pub no-row-under : under c (refused 3) ≡ refused 3
+  unfolding under
+  no-row-under = refl
+
+  pub coprocessor-under : under c (refused 2) ≡ refused 2
+  unfolding under
+  coprocessor-under = refl
+
+  pub accepted-under : (i : Insn) → under c (accepted i) ≡ accepted (insnOf (i .addr) (i .name) (record { 0 = c }) (flowAt c (i .flow)) (i .ops))
+  unfolding under
+  accepted-under i = refl
+
+-- its parts
+module _ (c : ℕ) (d : Decoded) where
+  pub refusal-under : (under c d) .refusal ≡ d .refusal
+  unfolding under
+  refusal-under = by-test (eqb (d .refusal) 0) (λ e. simp e (sym (eqb-true (d .refusal) 0 e))) (λ e. simp e)
+
+  pub name-under : (under c d) .insn .name ≡ d .insn .name
+  unfolding under
+  name-under = by-test (eqb (d .refusal) 0) (λ e. simp e) (λ e. simp e)
+
+  pub operands-under : (under c d) .insn .ops ≡ d .insn .ops
+  unfolding under
+  operands-under = by-test (eqb (d .refusal) 0) (λ e. simp e) (λ e. simp e)
+
+  pub flow-under : d .refusal ≡ 0 → (under c d) .insn .flow ≡ flowAt c (d .insn .flow)
+  unfolding under
+  flow-under ok = simp ok
+
+pub ruleset laws = (through, flows-through, no-row-under, coprocessor-under, accepted-under)

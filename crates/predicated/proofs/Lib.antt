@@ -1,0 +1,5 @@
+-- Facts of the crate: the groups, and the theorems.
+pub mod Laws
+pub mod Groups
+pub mod Branches
+pub mod ReadOnce
