@@ -1,5 +1,6 @@
-//! The words that follow the manual and not the Rust (02, P1): the barriers, `clrex` and the
-//! preloads, all under condition 15 with 27:24 = 0101.
+//! The words that follow the manual and not the Rust (02): the barriers, `clrex` and the preloads,
+//! all under condition 15 with 27:24 = 0101 (P1), and the halfword multiplies, under a condition
+//! below 15 (P3).
 
 use std::collections::BTreeMap;
 use std::fmt::{self, Display, Formatter};
@@ -11,38 +12,82 @@ use crate::oracle::Oracle;
 use crate::pattern::{Pattern, pattern};
 use crate::words::Block;
 
-/// A row of the manual under condition 15.
+/// The words under a condition below 15, or those under condition 15.
+pub struct Space {
+    /// The words that follow the manual. One of them that is in no row is refused.
+    corner: Pattern,
+    /// The rows of the manual there. No two have a word in common.
+    pub rows: &'static [Row],
+}
+
+/// A row of the manual.
 #[derive(Clone, Copy)]
 pub struct Row {
     pub words: Pattern,
     root: &'static str,
-    operand: fn(u32) -> Operand,
+    /// The bits that name halves of registers, each by a letter after the root.
+    halves: &'static [u32],
+    operands: &'static [Part],
 }
 
-/// No two have a word in common. The bits that the manual draws in parentheses are asked for, but
-/// for 3:0 of `clrex`.
-pub static ROWS: [Row; 6] = [
-    // A8.8.32
-    row("0101 0111 1111 1111 0000 0001 ....", "clrex", nothing),
-    // A8.8.44, A8.8.43, A8.8.53
-    row("0101 0111 1111 1111 0000 0100 ....", "dsb", option),
-    row("0101 0111 1111 1111 0000 0101 ....", "dmb", option),
-    row("0101 0111 1111 1111 0000 0110 ....", "isb", option),
-    // A8.8.126, A8.8.127
-    row("0101 .101 .... 1111 .... .... ....", "pld", memory),
-    row("0101 .001 .... 1111 .... .... ....", "pldw", memory),
-];
+/// What an operand is read from.
+type Part = fn(u32) -> Operand;
 
-const fn row(drawn: &str, root: &'static str, operand: fn(u32) -> Operand) -> Row {
+/// Control with bit 7 set and bit 4 clear. The bits that the manual draws in parentheses are not
+/// asked for.
+static CONDITIONAL: Space = Space {
+    corner: pattern("0001 0..0 .... .... .... 1..0 ...."),
+    rows: &[
+        // A8.8.176, A8.8.181
+        row("0001 0000 .... .... .... 1..0 ....", "smla", &[5, 6], MLA),
+        row("0001 0010 .... .... .... 1.00 ....", "smlaw", &[6], MLA),
+        // A8.8.190
+        row("0001 0010 .... .... .... 1.10 ....", "smulw", &[6], MUL),
+        // A8.8.179
+        row("0001 0100 .... .... .... 1..0 ....", "smlal", &[5, 6], LONG),
+        // A8.8.188
+        row("0001 0110 .... .... .... 1..0 ....", "smul", &[5, 6], MUL),
+    ],
+};
+
+/// The bits that the manual draws in parentheses are asked for, but for 3:0 of `clrex`.
+static CONDITION_15: Space = Space {
+    corner: pattern("0101 .... .... .... .... .... ...."),
+    rows: &[
+        // A8.8.32
+        row("0101 0111 1111 1111 0000 0001 ....", "clrex", &[], &[]),
+        // A8.8.44, A8.8.43, A8.8.53
+        row("0101 0111 1111 1111 0000 0100 ....", "dsb", &[], &[option]),
+        row("0101 0111 1111 1111 0000 0101 ....", "dmb", &[], &[option]),
+        row("0101 0111 1111 1111 0000 0110 ....", "isb", &[], &[option]),
+        // A8.8.126, A8.8.127
+        row("0101 .101 .... 1111 .... .... ....", "pld", &[], &[memory]),
+        row("0101 .001 .... 1111 .... .... ....", "pldw", &[], &[memory]),
+    ],
+};
+
+/// The operands of `mul`, of `mla` and of the long multiplies (01, "Multiply").
+const MUL: &[Part] = &[register::<16>, register::<0>, register::<8>];
+const MLA: &[Part] = &[register::<16>, register::<0>, register::<8>, register::<12>];
+const LONG: &[Part] = &[register::<12>, register::<16>, register::<0>, register::<8>];
+
+const fn row(
+    drawn: &str,
+    root: &'static str,
+    halves: &'static [u32],
+    operands: &'static [Part],
+) -> Row {
     Row {
         words: pattern(drawn),
         root,
-        operand,
+        halves,
+        operands,
     }
 }
 
-fn nothing(_: u32) -> Operand {
-    Operand::Empty
+/// The register whose number's lowest bit is the word's bit `LOW`.
+fn register<const LOW: u32>(word: u32) -> Operand {
+    Operand::Register((word >> LOW & 0xf) as u8)
 }
 
 fn option(word: u32) -> Operand {
@@ -63,26 +108,52 @@ fn memory(word: u32) -> Operand {
     })
 }
 
-/// Whether a word does not have the Rust's answer for its own.
-pub fn is_excepted(word: u32) -> bool {
-    word >> 24 == 0xf5
+/// The words under a condition.
+pub fn space(condition: u32) -> &'static Space {
+    if condition < 15 {
+        &CONDITIONAL
+    } else {
+        &CONDITION_15
+    }
 }
 
-/// The answer to such a word: its row's, or a refusal.
-pub fn answer(word: u32, address: u64) -> Answer {
-    let Some(row) = ROWS.iter().find(|row| row.words.has(word)) else {
-        return Answer::Refused(3);
-    };
-    let mut operands = [Operand::Empty; PLACES];
-    operands[0] = (row.operand)(word);
-    let name = ROOTS.iter().position(|&root| root == row.root);
-    Answer::Accepted(Instruction {
-        address,
-        name: name.expect("a row's root is among the roots") as u16,
-        condition: 15,
-        flow: Flow::Next,
-        operands,
-    })
+/// The answer to a word that follows the manual: its row's, or a refusal. Other words have none
+/// here.
+pub fn answer(word: u32, address: u64) -> Option<Answer> {
+    let space = space(word >> 28);
+    if !space.corner.has(word) {
+        return None;
+    }
+    let row = space.rows.iter().find(|row| row.words.has(word));
+    Some(row.map_or(Answer::Refused(3), |row| {
+        Answer::Accepted(row.instruction(word, address))
+    }))
+}
+
+impl Row {
+    fn instruction(&self, word: u32, address: u64) -> Instruction {
+        let mut operands = [Operand::Empty; PLACES];
+        for (place, part) in operands.iter_mut().zip(self.operands) {
+            *place = part(word);
+        }
+        Instruction {
+            address,
+            name: self.name(word),
+            condition: (word >> 28) as u8,
+            flow: Flow::Next,
+            operands,
+        }
+    }
+
+    /// The number of the root with its halves, the top for a bit that is set, else the bottom.
+    fn name(&self, word: u32) -> u16 {
+        let mut name = self.root.to_string();
+        for bit in self.halves {
+            name.push(if word >> bit & 1 == 1 { 't' } else { 'b' });
+        }
+        let number = ROOTS.iter().position(|&root| root == name);
+        number.expect("a row's names are among the roots") as u16
+    }
 }
 
 /// How many words have another answer than the Rust's own: by what both are called, the Rust's
@@ -92,8 +163,11 @@ pub struct Exceptions(BTreeMap<[&'static str; 2], u64>);
 
 impl Exceptions {
     pub fn add(&mut self, oracle: &mut Oracle, block: Block) {
-        for word in block.words().filter(|&word| is_excepted(word)) {
-            let answers = [oracle.rust(word, 0), oracle.answer(word, 0)];
+        for word in block.words() {
+            let Some(here) = answer(word, 0) else {
+                continue;
+            };
+            let answers = [oracle.rust(word, 0), here];
             if answers[0] != answers[1] {
                 *self.0.entry(answers.map(called)).or_default() += 1;
             }
@@ -131,14 +205,28 @@ impl Display for Exceptions {
 
 #[cfg(test)]
 mod tests {
+    use std::collections::BTreeMap;
+
     use super::{Exceptions, answer};
     use crate::line::Line;
+    use crate::names::ROOTS;
     use crate::oracle::Oracle;
     use crate::words::Block;
 
+    fn check(cases: &[(u32, &str)]) {
+        for &(word, expected) in cases {
+            let line = Line {
+                address: 0,
+                word,
+                answer: answer(word, 0).expect("the word follows the manual"),
+            };
+            assert_eq!(line.to_string(), format!("00000000 {word:08x} {expected}"));
+        }
+    }
+
     #[test]
-    fn lines() {
-        for (word, expected) in [
+    fn barriers_and_preloads() {
+        check(&[
             (0xf57f_f01f, "clrex next"),
             (0xf57f_f010, "clrex next"),
             (0xf57f_f04f, "dsb sy next"),
@@ -154,27 +242,52 @@ mod tests {
             (0xf5c1_f010, "refused 3"),
             (0xf5e1_f010, "refused 3"),
             (0xf5f1_f010, "refused 3"),
-        ] {
-            let line = Line {
-                address: 0,
-                word,
-                answer: answer(word, 0),
-            };
-            assert_eq!(line.to_string(), format!("00000000 {word:08x} {expected}"));
+        ]);
+    }
+
+    #[test]
+    fn halfword_multiplies() {
+        check(&[
+            (0xe101_4382, "smlabb r1 r2 r3 r4 next"),
+            (0xe101_43a2, "smlatb r1 r2 r3 r4 next"),
+            (0xe101_43c2, "smlabt r1 r2 r3 r4 next"),
+            (0xe101_43e2, "smlatt r1 r2 r3 r4 next"),
+            (0x0121_4382, "smlawbeq r1 r2 r3 r4 next"),
+            (0xe121_43c2, "smlawt r1 r2 r3 r4 next"),
+            (0xe121_03a2, "smulwb r1 r2 r3 next"),
+            (0xd121_f3e2, "smulwtle r1 r2 r3 next"),
+            (0xe141_4382, "smlalbb r4 r1 r2 r3 next"),
+            (0xe141_43a2, "smlaltb r4 r1 r2 r3 next"),
+            (0xe161_0382, "smulbb r1 r2 r3 next"),
+            (0xe161_f3c2, "smulbt r1 r2 r3 next"),
+        ]);
+    }
+
+    #[test]
+    fn beside_them() {
+        let words = [
+            0xe111_4382, // tst
+            0xe101_4302, // control, bit 7 clear
+            0xe101_4392, // swp
+            0xe181_4382, // orr
+            0xf101_4382, // condition 15
+        ];
+        for word in words {
+            assert_eq!(answer(word, 0), None, "{word:08x}");
         }
+    }
+
+    fn exceptions(first: u32, count: u32) -> BTreeMap<[&'static str; 2], u64> {
+        let mut exceptions = Exceptions::default();
+        exceptions.add(&mut Oracle::new(), Block { first, count });
+        exceptions.0
     }
 
     /// With 15:12 = 15, each 22:20 has 2^17 words. The Rust's preloads are the half of them with bit
     /// 4 clear, of all eight 22:20, and by bit 22 alone; here they are all of 001 and 101. Of 111, 64
     /// are barriers, and the Rust takes the half of these for preloads.
     #[test]
-    fn how_many() {
-        let mut exceptions = Exceptions::default();
-        let words = Block {
-            first: 0xf500_0000,
-            count: 1 << 24,
-        };
-        exceptions.add(&mut Oracle::new(), words);
+    fn how_many_barriers_and_preloads() {
         let half = 1 << 16;
         let expected = [
             (["pld", "pldw"], half),
@@ -188,6 +301,15 @@ mod tests {
             (["refused", "pld"], half),
             (["refused", "pldw"], half),
         ];
-        assert_eq!(exceptions.0, expected.into());
+        assert_eq!(exceptions(0xf500_0000, 1 << 24), expected.into());
+    }
+
+    /// Each of the sixteen forms, which are the last names, has four fields of four bits. The Rust
+    /// refuses them all.
+    #[test]
+    fn how_many_halfword_multiplies() {
+        let forms = ROOTS[ROOTS.len() - 16..].iter();
+        let expected = forms.map(|&root| (["refused", root], 1 << 16));
+        assert_eq!(exceptions(0xe100_0000, 1 << 24), expected.collect());
     }
 }

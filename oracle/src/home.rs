@@ -1,4 +1,4 @@
-//! The home word of an accepted word, as document 01 has it in "Home words", and 02, P1.
+//! The home word of an accepted word, as document 01 has it in "Home words", and 02, P1 and P3.
 
 use crate::pattern::{Pattern, pattern};
 
@@ -62,6 +62,9 @@ pub static CONDITIONAL: Space = Space {
         row("000. .0.. .... .... .... 11.1 ....", &[(11, 8)]),
         // mul
         row("0000 000. .... .... .... 1001 ....", &[(15, 12)]),
+        // smul, smulw
+        row("0001 0110 .... .... .... 1..0 ....", &[(15, 12)]),
+        row("0001 0010 .... .... .... 1.10 ....", &[(15, 12)]),
         // sdiv, udiv
         row("0111 0001 .... .... .... 0001 ....", &[(15, 12)]),
         row("0111 0011 .... .... .... 0001 ....", &[(15, 12)]),
@@ -186,6 +189,11 @@ mod tests {
             (0xe001_f293, 0xe001_0293), // mul
             (0xe011_f293, 0xe011_0293), // muls
             (0xe021_f293, 0xe021_f293), // mla
+            (0xe161_f2e3, 0xe161_02e3), // smultt
+            (0xe121_f2e3, 0xe121_02e3), // smulwt
+            (0xe121_f2c3, 0xe121_f2c3), // smlawt
+            (0xe101_f283, 0xe101_f283), // smlabb
+            (0xe141_f283, 0xe141_f283), // smlalbb
             (0xe181_2f93, 0xe181_2093), // strex
             (0xe191_2f9f, 0xe191_2090), // ldrex
             (0xe711_f213, 0xe711_0213), // sdiv

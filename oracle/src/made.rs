@@ -189,8 +189,8 @@ pub fn word(random: &mut Random) -> u32 {
 
 /// The words of a row under this condition.
 fn row_words(condition: u32, random: &mut Random) -> Pattern {
-    if condition == 15 {
-        random.pick(&excepted::ROWS).words
+    if condition == 15 || random.one_in(4) {
+        random.pick(excepted::space(condition).rows).words
     } else if random.coin() {
         random.pick(CONDITIONAL.rows).words
     } else {
@@ -198,7 +198,8 @@ fn row_words(condition: u32, random: &mut Random) -> Pattern {
     }
 }
 
-/// Small rows and corners under a condition below 15 that 01's table of home words doesn't draw.
+/// Small rows and corners under a condition below 15 that are drawn neither among the rows that
+/// follow the manual nor among those of home words.
 const SMALL_ROWS: [Pattern; 12] = [
     // mov to 15 from 14
     pattern("0001 101. .... 1111 0000 0000 1110"),

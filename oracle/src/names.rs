@@ -5,9 +5,10 @@ pub(crate) use crate::arm::BARRIERS as BARRIER_OPTIONS;
 pub(crate) use crate::arm::MSR_MASKS as STATUS_MASKS;
 
 /// The roots by name number, in the order in which a32.rs first spells them; but `clrex` and the
-/// barriers are last, as no word of the Rust's reaches them.
+/// barriers, which no word of the Rust's reaches, and the halfword multiplies, which it does not
+/// spell, are last.
 #[rustfmt::skip]
-pub const ROOTS: [&str; 133] = [
+pub const ROOTS: [&str; 149] = [
     "and", "eor", "sub", "rsb", "add", "adc", "sbc", "rsc",
     "tst", "teq", "cmp", "cmn", "orr", "mov", "bic", "mvn",
     "ands", "eors", "subs", "rsbs", "adds", "adcs", "sbcs", "rscs",
@@ -31,6 +32,8 @@ pub const ROOTS: [&str; 133] = [
     "bl", "b",
     "pld", "pldw",
     "clrex", "dsb", "dmb", "isb",
+    "smlabb", "smlabt", "smlatb", "smlatt", "smlawb", "smlawt", "smulwb", "smulwt",
+    "smlalbb", "smlalbt", "smlaltb", "smlaltt", "smulbb", "smulbt", "smultb", "smultt",
 ];
 
 /// What each condition adds to a root.

@@ -1,5 +1,5 @@
-//! The answer that is right for a word: the manual's for those that 02, P1, excepts, and else the
-//! Rust's, read as an `Answer`. What an answer can't express stops the program.
+//! The answer that is right for a word: the manual's for those that 02 excepts, and else the Rust's,
+//! read as an `Answer`. What an answer can't express stops the program.
 
 use std::ptr;
 
@@ -27,10 +27,7 @@ impl Oracle {
 
     /// The answer to `word` at `address`.
     pub fn answer(&mut self, word: u32, address: u64) -> Answer {
-        if excepted::is_excepted(word) {
-            return excepted::answer(word, address);
-        }
-        self.rust(word, address)
+        excepted::answer(word, address).unwrap_or_else(|| self.rust(word, address))
     }
 
     /// The Rust's own.

@@ -9,10 +9,11 @@ use Rattle.word.specs.Field.{field}
 use Rattle.word.specs.Choice.{pick, both}
 use Rattle.insn.specs.Answer.{refused}
 use Rattle.insn.specs.declared.Decoded.{Decoded}
-use Rattle.arm.specs.Row.{among, _⇒_, noRow}
+use Rattle.arm.specs.Row.{among, _⇒_}
 use Rattle.dp.specs.DpReg.{dpRegOf}
 use Rattle.dp.specs.DpImm.{dpImmOf}
 use Rattle.misc.specs.Misc.{miscOf}
+use Rattle.multiply.specs.Halfword.{halfwordOf}
 use Rattle.multiply.specs.Multiply.{multiplyOf}
 use Rattle.multiply.specs.Sync.{syncOf}
 use Rattle.ldst.specs.ExtraLdst.{extraLdstOf}
@@ -26,9 +27,9 @@ use Rattle.transfer.specs.Unconditional.{unconditionalOf}
 unfoldable pub controlOf : ℕ → Bool
 controlOf w = both (eqb (field w 23 2) 2) (eqb (field w 20 1) 0)
 
--- "Register data processing. .. not control"; "Control, bit 7 clear"
+-- "Register data processing. .. not control"; "Control, bit 7 clear"; 02, P3: "Control rows with bit 7 set and bit 4 clear"
 unfoldable pub plainOf : ℕ → ℕ → Decoded
-plainOf w addr = pick (controlOf w) (pick (eqb (field w 7 1) 0) (miscOf w addr) noRow) (dpRegOf w addr)
+plainOf w addr = pick (controlOf w) (pick (eqb (field w 7 1) 0) (miscOf w addr) (halfwordOf w addr)) (dpRegOf w addr)
 
 -- bits 7 and 4 set: "Multiply, 27:24 = 0000, 7:4 = 1001", "Exclusives, 27:24 = 0001, 7:4 = 1001", "Extra load/store, .. 6:5 not 00"
 unfoldable pub extraOf : ℕ → ℕ → Decoded

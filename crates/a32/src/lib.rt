@@ -11,6 +11,7 @@ use ldst::extra_ldst::extra_ldst;
 use ldst::ldst::ldst;
 use media::media;
 use misc::misc;
+use multiply::halfword;
 use multiply::multiply;
 use multiply::sync;
 use transfer::block::block;
@@ -101,7 +102,7 @@ fn plain(w: u32, addr: u64) -> Decoded
         if high == 0 {
             misc(w, addr)
         } else {
-            refuse(NO_ROW)
+            halfword(w, addr)
         }
     } else {
         dp_reg(w, addr)

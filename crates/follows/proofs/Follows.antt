@@ -33,15 +33,18 @@ module _ (w addr : ℕ) where
         (λ l. by-register w addr cond group (λ op s. C.saturating w addr cond group op s l) (simp (low-4, l)) (simp (low-7, l))) also
         (λ l. by-count w addr cond group (λ op s. C.return w addr cond group op s l) (simp (low-4, l))) also
         (λ l. by-register w addr cond group (λ op s. C.breakpoint w addr cond group op s l) (simp (low-4, l)) (simp (low-7, l))) also
-        (λ l. by-count w addr cond group (λ op s. C.halves-8 w addr cond group op s l) (simp (low-4, l))) also
+        (λ l. halfword (simp (low-7, l)) (simp (low-4, l))) also
         C.multiplies w addr cond group also
-        (λ l. by-count w addr cond group (λ op s. C.halves-10 w addr cond group op s l) (simp (low-4, l))) also
+        (λ l. halfword (simp (low-7, l)) (simp (low-4, l))) also
         extra-11 w addr cond group also
-        (λ l. by-count w addr cond group (λ op s. C.halves-12 w addr cond group op s l) (simp (low-4, l))) also
+        (λ l. halfword (simp (low-7, l)) (simp (low-4, l))) also
         extra-13 w addr cond group also
-        (λ l. by-count w addr cond group (λ op s. C.halves-14 w addr cond group op s l) (simp (low-4, l))) also
+        (λ l. halfword (simp (low-7, l)) (simp (low-4, l))) also
         extra-15 w addr cond group also
         tt)
+      where
+        halfword : field w 7 1 ≡ 1 → field w 4 1 ≡ 0 → HeldAt w addr
+        halfword seven four = by-count w addr cond group (λ op s. C.halfword w addr cond group op s seven four) four
 
     -- 27:25 = 011, by bit 4
     indexed : field w 25 3 ≡ 3 → HeldAt w addr

@@ -6,6 +6,7 @@ use Rattle.group_words.proofs.extra.extra_word.Reads as extra-word
 use Rattle.group_words.proofs.ldst.ldst_word.Reads as ldst-word
 use Rattle.group_words.proofs.media.media_word.Reads as media-word
 use Rattle.group_words.proofs.misc.misc_word.Reads as misc-word
+use Rattle.group_words.proofs.multiply.halfword_word.Reads as halfword-word
 
 pub extra-word-only : Only extra-word.Post
 extra-word-only κs a r r′ s s′ p q = p ∙ sym q
@@ -18,3 +19,6 @@ media-word-only κs a r r′ s s′ p q = p ∙ sym q
 
 pub misc-word-only : Only misc-word.Post
 misc-word-only κs a r r′ s s′ p q = p ∙ sym q
+
+pub halfword-word-only : Only halfword-word.Post
+halfword-word-only κs a r r′ s s′ p q = p ∙ sym q

@@ -3,4 +3,4 @@ pub mod extra;
 pub mod ldst;
 pub mod media;
 pub mod misc;
-mod multiply;
+pub mod multiply;

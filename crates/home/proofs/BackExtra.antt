@@ -13,7 +13,7 @@ use Rattle.multiply.specs.Multiply.{multiplyOf}
 use Rattle.ldst.specs.ExtraLdst.{memoryOf, subtractedIndexOf}
 use Rattle.ldst.specs.Mem.{unprivilegedOf, modeOf, minusZeroOf}
 use Rattle.a32.specs.Decode.{extraOf}
-use Rattle.home.specs.Table.{ignored, MUL-ROW, ALL-READ}
+use Rattle.home.specs.Table.{ignored, PRODUCTS, ALL-READ}
 use Rattle.home.specs.Home.{clearAll, extraRow}
 use Rattle.parts.specs.Operands.{signNumber, markNumber, operandFlat}
 use Rattle.parts.specs.Parts.{bitU, bitW}
@@ -120,7 +120,7 @@ module _ (w addr : ℕ) (bound : w < 2 ^ 32) (group : field w 25 3 ≡ 0) (seven
     unfolding extraOf
     multiplied = simp (kind, p)
 
-    mul-row : eqb (field w 21 3) 0 ≡ true → extraRow w ≡ MUL-ROW
+    mul-row : eqb (field w 21 3) 0 ≡ true → extraRow w ≡ PRODUCTS
     unfolding extraRow
     mul-row op = simp (kind, p, op)
 

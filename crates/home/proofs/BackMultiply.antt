@@ -3,6 +3,7 @@ use mathlib.Core.Path.{_≡_, refl}
 use mathlib.Core.Bool.{Bool, true, false}
 use mathlib.Core.List.{[], _∷_}
 use Prim.Native.Nat.{ℕ, _+_, _-_, _*_, _^_, _<_}
+use native.Mathlib.Omega.{arith}
 use borrow.Author.Tests.{eqb-true}
 use lib.Dec.{eqb, leb}
 use lib.ListN.{getD}
@@ -11,9 +12,8 @@ use Rattle.word.specs.Field.{field, clear, clear-small, splits}
 use Rattle.word.specs.Layout.{join, whole}
 use Rattle.insn.specs.Name.{MUL, MULS, MLA, MLAS, UMAAL, MLS, UMULL, UMULLS, UMLAL, UMLALS, SMULL, SMULLS, SMLAL, SMLALS}
 use Rattle.insn.specs.declared.Decoded.{Decoded}
-use Rattle.insn.specs.declared.Flow.the-variants.{Next}
-use Rattle.arm.specs.Row.{byS, regOf, answer}
-use Rattle.multiply.specs.Multiply.{longOf, addingOf, clearS, multiplyOf}
+use Rattle.arm.specs.Row.{byS}
+use Rattle.multiply.specs.Multiply.{productOf, longOf, addingOf, clearS, multiplyOf}
 use Rattle.home.specs.WordMultiply.{layout, operations, isLong}
 use Rattle.home.specs.WordExtra.{extraWord}
 use Rattle.home.proofs.Leads.{apart, Leads, bit-cases, refusal}
@@ -22,20 +22,27 @@ use Rattle.home.proofs.Leads.{apart, Leads, bit-cases, refusal}
 abbrev Named : ℕ → ℕ → Bool → Type 0
 Named name op long = (inside 49 74 name ≡ true) × (leb name 62 ≡ true) × (getD operations (name - MULS) 0 ≡ op) × (isLong op ≡ long)
 
+-- 7:4 of the multiplies and the exclusives
+pub nine : (w : ℕ) → field w 4 1 ≡ 1 → field w 5 2 ≡ 0 → field w 7 1 ≡ 1 → field w 4 4 ≡ 9
+nine w four kind seven = omega (arith, splits w 4 3 1, splits w 5 1 2)
+
 module _ (w addr : ℕ) (bound : w < 2 ^ 32)
     (group : field w 25 3 ≡ 0) (seven : field w 7 1 ≡ 1) (four : field w 4 1 ≡ 1) (kind : field w 5 2 ≡ 0) (p : field w 24 1 ≡ 0) where
+  low : field w 4 4 ≡ 9
+  low = nine w four kind seven
+
   -- 23:20 is 23:21 and bit 20
   twenty : {op s : ℕ} → field w 21 3 ≡ op → field w 20 1 ≡ s → field w 20 4 ≡ op * 2 + s
   twenty is-op is-s = simp (is-op, is-s) at (splits w 20 3 1)
 
   -- a word is its fields, joined; so is a word with 15:12 cleared
   whole-word : {op : ℕ} → field w 20 4 ≡ op
-      → join layout (field w 0 4 ∷ 1 ∷ 0 ∷ 1 ∷ field w 8 4 ∷ field w 12 4 ∷ field w 16 4 ∷ op ∷ 0 ∷ 0 ∷ field w 28 4 ∷ []) ≡ w
-  whole-word is-op = simp (group, seven, four, kind, p, is-op) at (whole layout w bound)
+      → join layout (field w 0 4 ∷ 9 ∷ field w 8 4 ∷ field w 12 4 ∷ field w 16 4 ∷ op ∷ 0 ∷ 0 ∷ field w 28 4 ∷ []) ≡ w
+  whole-word is-op = simp (group, low, p, is-op) at (whole layout w bound)
 
   whole-home : {op : ℕ} → field w 20 4 ≡ op
-      → join layout (field w 0 4 ∷ 1 ∷ 0 ∷ 1 ∷ field w 8 4 ∷ 0 ∷ field w 16 4 ∷ op ∷ 0 ∷ 0 ∷ field w 28 4 ∷ []) ≡ clear w 12 4
-  whole-home is-op = simp (apart, group, seven, four, kind, p, is-op) at (whole layout (clear w 12 4) (clear-small w 12 4 bound))
+      → join layout (field w 0 4 ∷ 9 ∷ field w 8 4 ∷ 0 ∷ field w 16 4 ∷ op ∷ 0 ∷ 0 ∷ field w 28 4 ∷ []) ≡ clear w 12 4
+  whole-home is-op = simp (apart, group, low, p, is-op) at (whole layout (clear w 12 4) (clear-small w 12 4 bound))
 
   abbrev Back : ℕ → Decoded → Type 0
   Back home d = Leads extraWord 49 74 home d
@@ -50,12 +57,9 @@ module _ (w addr : ℕ) (bound : w < 2 ^ 32)
 
   -- mul ignores 15:12
   pub mul-leads : field w 21 3 ≡ 0 → Leads extraWord 49 74 (clear w 12 4) (multiplyOf w addr)
-  mul-leads op = simp op (by-s mulOf MUL MULS op (leads MUL (refl, refl, refl, refl)) (leads MULS (refl, refl, refl, refl)))
+  mul-leads op = simp op (by-s (productOf w addr) MUL MULS op (leads MUL (refl, refl, refl, refl)) (leads MULS (refl, refl, refl, refl)))
     where
-      mulOf : ℕ → Decoded
-      mulOf name = answer w addr name Next (regOf w 16 ∷ regOf w 0 ∷ regOf w 8 ∷ [])
-
-      leads : (name : ℕ) {op : ℕ} → Named name op false → field w 20 4 ≡ op → Back (clear w 12 4) (mulOf name)
+      leads : (name : ℕ) {op : ℕ} → Named name op false → field w 20 4 ≡ op → Back (clear w 12 4) (productOf w addr name)
       leads name (named, low, of-name, short) is-op ok = (simp (low, of-name, short) (whole-home is-op), named, refl)
 
   -- the others read every field

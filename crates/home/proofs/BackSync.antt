@@ -14,6 +14,7 @@ use Rattle.home.specs.Home.{clearAll, extraRow}
 use Rattle.home.specs.WordMultiply.{layout}
 use Rattle.home.specs.WordExtra.{extraWord}
 use Rattle.home.proofs.Leads.{apart, Leads, bit-cases, refusal}
+use Rattle.home.proofs.BackMultiply.{nine}
 
 -- bit 20 is the lowest of 23:20
 lowest : (w n : ℕ) → field w 20 4 ≡ n → field w 20 1 ≡ n % 2
@@ -31,13 +32,13 @@ module _ (w addr : ℕ) (kind : field w 5 2 ≡ 0) (p : field w 24 1 ≡ 1) wher
   module _ (bound : w < 2 ^ 32) (group : field w 25 3 ≡ 0) (seven : field w 7 1 ≡ 1) (four : field w 4 1 ≡ 1) where
     -- the stores ignore 11:8, and the loads 3:0 too
     storing : (n : ℕ) → field w 20 4 ≡ n
-        → join layout (field w 0 4 ∷ 1 ∷ 0 ∷ 1 ∷ 0 ∷ field w 12 4 ∷ field w 16 4 ∷ n ∷ 1 ∷ 0 ∷ field w 28 4 ∷ []) ≡ clear w 8 4
-    storing n op = simp (apart, group, seven, four, kind, p, op) at (whole layout (clear w 8 4) (clear-small w 8 4 bound))
+        → join layout (field w 0 4 ∷ 9 ∷ 0 ∷ field w 12 4 ∷ field w 16 4 ∷ n ∷ 1 ∷ 0 ∷ field w 28 4 ∷ []) ≡ clear w 8 4
+    storing n op = simp (apart, group, nine w four kind seven, p, op) at (whole layout (clear w 8 4) (clear-small w 8 4 bound))
 
     loading : (n : ℕ) → field w 20 4 ≡ n
-        → join layout (0 ∷ 1 ∷ 0 ∷ 1 ∷ 0 ∷ field w 12 4 ∷ field w 16 4 ∷ n ∷ 1 ∷ 0 ∷ field w 28 4 ∷ []) ≡ clear (clear w 8 4) 0 4
+        → join layout (0 ∷ 9 ∷ 0 ∷ field w 12 4 ∷ field w 16 4 ∷ n ∷ 1 ∷ 0 ∷ field w 28 4 ∷ []) ≡ clear (clear w 8 4) 0 4
     loading n op =
-        simp (apart, group, seven, four, kind, p, op) at
+        simp (apart, group, nine w four kind seven, p, op) at
         (whole layout (clear (clear w 8 4) 0 4) (clear-small _ 0 4 (clear-small w 8 4 bound)))
 
     abbrev Row : Type 0

@@ -18,7 +18,7 @@ use Rattle.word.specs.Field.{field, put, clear, keeps-above, put-above}
 use Rattle.a32.specs.Decode.{controlOf}
 use Rattle.dp.specs.DpImm.{hintSlot}
 use Rattle.home.specs.Table.{Ignored, table, ignored}
-use Rattle.home.specs.Home.{clearAll, controlRow, moveRow, dpRegRow, extraRow, plainRow, dpMiscRow, dpImmRow, mediaRow, rowOf, raisesOf, raised, homeOf}
+use Rattle.home.specs.Home.{clearAll, controlRow, halfwordRow, moveRow, dpRegRow, extraRow, plainRow, dpMiscRow, dpImmRow, mediaRow, rowOf, raisesOf, raised, homeOf}
 
 -- the low n bits of a word with a field put among them
 put-low : (w lo k v n : ℕ) → ltb v (2 ^ k) ≡ true → leb (lo + k) n ≡ true → put w lo k v % 2 ^ n ≡ put (w % 2 ^ n) lo k v
@@ -50,7 +50,7 @@ puts-alike w v lo k n fits h alike =
 
 module _ (w v : ℕ) (alike : Alike w v) (c : eqb (field w 28 4) 15 ≡ false) (c′ : eqb (field v 28 4) 15 ≡ false) where
   same-row : rowOf w ≡ rowOf v
-  unfolding rowOf dpMiscRow plainRow controlRow dpRegRow moveRow extraRow dpImmRow mediaRow controlOf hintSlot
+  unfolding rowOf dpMiscRow plainRow controlRow halfwordRow dpRegRow moveRow extraRow dpImmRow mediaRow controlOf hintSlot
   same-row = simp (c, c′, fields-alike w v alike)
 
   same-raise : raisesOf w ≡ raisesOf v

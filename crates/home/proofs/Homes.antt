@@ -10,7 +10,7 @@ use Rattle.word.specs.Field.{field, clear, splits}
 use Rattle.dp.specs.DpImm.{hintSlot}
 use Rattle.a32.specs.Decode.{controlOf}
 use Rattle.home.specs.Table.{ignored}
-use Rattle.home.specs.Home.{clearAll, controlRow, moveRow, dpRegRow, extraRow, plainRow, dpMiscRow, dpImmRow, mediaRow, barrierRow, rowOf, raisesOf, raised, homeOf}
+use Rattle.home.specs.Home.{clearAll, controlRow, halfwordRow, moveRow, dpRegRow, extraRow, plainRow, dpMiscRow, dpImmRow, mediaRow, barrierRow, rowOf, raisesOf, raised, homeOf}
 use Rattle.home.proofs.Leads.{bit-cases}
 
 module _ (w : ℕ) where
@@ -28,9 +28,9 @@ module _ (w : ℕ) where
       unfolding homeOf rowOf raisesOf dpMiscRow plainRow
       misc-home control seven = bit-cases w 4 (λ four. simp (c, g, fails, control, four, seven)) (λ four. simp (c, g, fails, control, four, seven))
 
-      pub halves-home : controlOf w ≡ true → field w 4 1 ≡ 0 → homeOf w ≡ clearAll (ignored (controlRow w)) w
+      pub halfword-home : controlOf w ≡ true → field w 4 1 ≡ 0 → field w 7 1 ≡ 1 → homeOf w ≡ clearAll (ignored (halfwordRow w)) w
       unfolding homeOf rowOf raisesOf dpMiscRow plainRow
-      halves-home control four = simp (c, g, fails, control, four)
+      halfword-home control four seven = simp (c, g, fails, control, four, seven)
 
       pub dp-home : controlOf w ≡ false → (field w 4 1 ≡ 1 → field w 7 1 ≡ 0) → homeOf w ≡ clearAll (ignored (dpRegRow w)) w
       unfolding homeOf rowOf raisesOf dpMiscRow plainRow
@@ -85,6 +85,10 @@ module _ (w : ℕ) where
   pub control-below : ltb (controlRow w) 15 ≡ true
   unfolding controlRow
   control-below = simp bounds
+
+  pub halfword-below : ltb (halfwordRow w) 15 ≡ true
+  unfolding halfwordRow
+  halfword-below = simp bounds
 
   move-below : ltb (moveRow w) 15 ≡ true
   unfolding moveRow
@@ -151,6 +155,7 @@ row-below w =
     simp (
       bounds,
       fewer (controlRow w) (control-below w),
+      fewer (halfwordRow w) (halfword-below w),
       fewer (dpRegRow w) (dp-reg-below w),
       fewer (extraRow w) (extra-below w),
       fewer (dpImmRow w) (dp-imm-below w),

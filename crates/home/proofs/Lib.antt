@@ -8,6 +8,7 @@ pub mod BackDpImm
 pub mod BackMisc
 pub mod BackMultiply
 pub mod BackSync
+pub mod BackHalfword
 pub mod BackExtra
 pub mod BackLdst
 pub mod BackMedia

@@ -15,6 +15,7 @@ use Rattle.insn.specs.declared.Insn.{Insn}
 use Rattle.dp.specs.DpImm.{dpImmOf, hintSlot}
 use Rattle.dp.specs.DpReg.{dpRegOf}
 use Rattle.misc.specs.Misc.{miscOf}
+use Rattle.multiply.specs.Halfword.{halfwordOf}
 use Rattle.ldst.specs.Ldst.{ldstOf}
 use Rattle.media.specs.Media.{mediaOf}
 use Rattle.transfer.specs.Block.{blockOf}
@@ -23,7 +24,7 @@ use Rattle.transfer.specs.Unconditional.{barrierSlot, preloadSlot, unconditiona
 use Rattle.insn.specs.Answer.{accepted, refused}
 use Rattle.a32.specs.Decode.{decodeOf, controlOf, extraOf}
 use Rattle.home.specs.Table.{ignored}
-use Rattle.home.specs.Home.{clearAll, controlRow, dpRegRow, extraRow, dpImmRow, mediaRow, barrierRow, rowOf, raisesOf, raised, homeOf}
+use Rattle.home.specs.Home.{clearAll, controlRow, halfwordRow, dpRegRow, extraRow, dpImmRow, mediaRow, barrierRow, rowOf, raisesOf, raised, homeOf}
 use Rattle.parts.specs.Parts.{at, isAddress}
 use Rattle.home.specs.Word.{wordOf}
 use Rattle.home.specs.WordMisc.{miscWord}
@@ -32,6 +33,7 @@ use Rattle.home.proofs.BackBranch.{branch-leads, blx-leads}
 use Rattle.home.proofs.BackDpImm.{movw-leads, movt-leads, hint-leads, Msr, msr-low, msr-high, operation-leads}
 use Rattle.home.proofs.BackDpReg.{dp-reg-leads}
 use Rattle.home.proofs.BackExtra.{extra-keeps, extra-leads}
+use Rattle.home.proofs.BackHalfword.{halfword-keeps, halfword-leads}
 use Rattle.home.proofs.BackLdst.{ldst-keeps, ldst-leads}
 use Rattle.home.proofs.BackMedia.{media-keeps, media-leads}
 use Rattle.home.proofs.BackMisc.{misc-keeps, misc-leads, misc-second}
@@ -76,7 +78,7 @@ module _ (w addr : ℕ) (bound : w < 2 ^ 32) where
         (H.second-home w c ∙ simp (no-preload-stays w c (barrier-not-preload w is-barrier)))
         (keeps-cond (barrierRow w) w (H.barrier-below w) ∙ c)
         (barrier-keeps w addr is-barrier)
-        (by-leads 129 132 _ (unconditionalOf w addr) (barrier-leads w addr is-barrier bound) (λ i plain. Ways.named-barrier i plain 132))
+        (by-leads 129 132 _ (unconditionalOf w addr) (barrier-leads w addr is-barrier bound) Ways.named-barrier)
 
     preload : preloadSlot w ≡ true → Settled
     preload slot =
@@ -123,6 +125,15 @@ module _ (w addr : ℕ) (bound : w < 2 ^ 32) where
     unfolding controlOf
     still-control row below is = rw (keeps-24-23 row w (H.fewer row below), keeps-20 row w below) is
 
+    -- what control is, field by field
+    ten-is : controlOf w ≡ true → field w 23 2 ≡ 2
+    unfolding controlOf
+    ten-is is = eqb-true (field w 23 2) 2 (parts _ (eqb (field w 20 1) 0) is .0)
+
+    s-is : controlOf w ≡ true → field w 20 1 ≡ 0
+    unfolding controlOf
+    s-is is = eqb-true (field w 20 1) 0 (parts (eqb (field w 23 2) 2) _ is .1)
+
     module _ (g : field w 25 3 ≡ 0) where
       extra : field w 4 1 ≡ 1 → field w 7 1 ≡ 1 → Settled
       extra four seven =
@@ -133,8 +144,18 @@ module _ (w addr : ℕ) (bound : w < 2 ^ 32) where
           below : ltb (extraRow w) 17 ≡ true
           below = H.fewer (extraRow w) (H.extra-below w)
 
+      halfword : controlOf w ≡ true → field w 4 1 ≡ 0 → field w 7 1 ≡ 1 → Settled
+      halfword is four seven =
+          settle (clearAll (ignored (halfwordRow w)) w) (halfwordOf w addr) (H.halfword-home w c g is four seven) (Ways.to-halfword w addr c g is four seven)
+          (Ways.to-halfword (clearAll (ignored (halfwordRow w)) w) addr (still-c (halfwordRow w) below) (still-g (halfwordRow w) below g) (still-control (halfwordRow w) (H.halfword-below w) is) (still-4 (halfwordRow w) below four) (still-7 (halfwordRow w) below seven) ∙ halfword-keeps w addr)
+          (by-leads 133 148 _ (halfwordOf w addr)
+          (halfword-leads w addr bound g (ten-is is) (s-is is) seven four)
+          (λ i plain. Ways.named-halfword i plain 148))
+        where
+          below : ltb (halfwordRow w) 17 ≡ true
+          below = H.fewer (halfwordRow w) (H.halfword-below w)
+
       control : controlOf w ≡ true → Settled
-      unfolding controlOf
       control is =
           bit-cases w 7
           (λ seven.
@@ -143,10 +164,7 @@ module _ (w addr : ℕ) (bound : w < 2 ^ 32) where
           (λ ok. Ways.named-misc _ (leads seven ok .2) (leads seven ok .1) (misc-second w addr ok) ∙ leads seven ok .0))
           (λ seven.
           bit-cases w 4
-          (λ four.
-          settle (clearAll (ignored (controlRow w)) w) (refused 3) (H.halves-home w c g is four) (Ways.control-away w addr c g is four seven)
-          (Ways.control-away (clearAll (ignored (controlRow w)) w) addr (still-c (controlRow w) below) (still-g (controlRow w) below g) (still-control (controlRow w) (H.control-below w) is) (still-4 (controlRow w) below four) (still-7 (controlRow w) below seven))
-          (λ ok. refusal ok))
+          (λ four. halfword is four seven)
           (λ four. extra four seven))
         where
           below : ltb (controlRow w) 17 ≡ true
@@ -154,10 +172,7 @@ module _ (w addr : ℕ) (bound : w < 2 ^ 32) where
 
           leads : field w 7 1 ≡ 0 → Leads miscWord 38 48 (clearAll (ignored (controlRow w)) w) (miscOf w addr)
           leads seven =
-              misc-leads w addr bound g
-              (eqb-true (field w 23 2) 2 (parts _ (eqb (field w 20 1) 0) is .0))
-              (eqb-true (field w 20 1) 0 (parts (eqb (field w 23 2) 2) _ is .1))
-              seven
+              misc-leads w addr bound g (ten-is is) (s-is is) seven
 
       operation : controlOf w ≡ false → Settled
       operation is =

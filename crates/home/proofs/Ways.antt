@@ -1,5 +1,5 @@
 -- The group that a word goes to, and the group that a name leads to. Assumes nothing.
-use mathlib.Core.Path.{_≡_, _∙_}
+use mathlib.Core.Path.{_≡_, ap, _∙_}
 use mathlib.Core.Bool.{true, false}
 use Prim.Native.Nat.{ℕ, _+_, _*_, _<_, _≤_}
 use native.Mathlib.Omega.{arith}
@@ -9,10 +9,12 @@ use Rattle.word.specs.Choice.{pick, inside, parts, fails}
 use Rattle.word.specs.Field.{field, small, splits}
 use Rattle.insn.specs.Answer.{refused}
 use Rattle.insn.specs.Name.{MSR, BLX}
+use Rattle.insn.specs.declared.Decoded.{Decoded}
 use Rattle.insn.specs.declared.Insn.{Insn}
 use Rattle.dp.specs.DpReg.{dpRegOf}
 use Rattle.dp.specs.DpImm.{dpImmOf}
 use Rattle.misc.specs.Misc.{miscOf}
+use Rattle.multiply.specs.Halfword.{halfwordOf}
 use Rattle.ldst.specs.Ldst.{ldstOf}
 use Rattle.media.specs.Media.{mediaOf}
 use Rattle.transfer.specs.Block.{blockOf}
@@ -23,11 +25,12 @@ use Rattle.parts.specs.Parts.{at, isAddress, isCount}
 use Rattle.home.specs.Word.{wordOf, statusWord}
 use Rattle.home.specs.WordDp.{dpWord, wideWord, msrImmediateWord}
 use Rattle.home.specs.WordMisc.{miscWord}
+use Rattle.home.specs.WordMultiply.{halfwordWord}
 use Rattle.home.specs.WordExtra.{extraWord}
 use Rattle.home.specs.WordLdst.{ldstWord}
 use Rattle.home.specs.WordMedia.{mediaWord}
 use Rattle.home.specs.WordTransfer.{blockWord, branchWord, blxWord, preloadWord, barrierWord}
-use Rattle.home.proofs.Leads.{bit-cases}
+use Rattle.home.proofs.Leads.{bit-cases, two-cases}
 
 -- 27:26 from 27:25
 pub top : (w g h : ℕ) → field w 25 3 ≡ g → h * 2 ≤ g → g < h * 2 + 2 → field w 26 2 ≡ h
@@ -45,9 +48,21 @@ module _ (w addr : ℕ) where
     to-coprocessor p = simp (c, p)
 
     module _ (g : field w 25 3 ≡ 0) where
-      pub control-away : controlOf w ≡ true → field w 4 1 ≡ 0 → field w 7 1 ≡ 1 → decodeOf w addr ≡ refused 3
+      pub to-halfword : controlOf w ≡ true → field w 4 1 ≡ 0 → field w 7 1 ≡ 1 → decodeOf w addr ≡ halfwordOf w addr
       unfolding decodeOf groupOf dpMiscOf plainOf
-      control-away control four seven = simp (c, top w 0 0 g (omega arith) (omega arith), g, control, four, seven)
+      to-halfword control four seven = simp (c, top w 0 0 g (omega arith) (omega arith), g, control, four, seven)
+
+      -- 02, P3: "Refusals: none remain in this corner"
+      pub halfword-accepted : controlOf w ≡ true → field w 4 1 ≡ 0 → field w 7 1 ≡ 1 → (decodeOf w addr) .refusal ≡ 0
+      halfword-accepted control four seven = ap (λ (d : Decoded). d .refusal) (to-halfword control four seven) ∙ accepted
+        where
+          accepted : (halfwordOf w addr) .refusal ≡ 0
+          accepted =
+              two-cases w 21
+              (λ op. simp op)
+              (λ op. bit-cases w 5 (λ x. simp (op, x)) (λ x. simp (op, x)))
+              (λ op. simp op)
+              (λ op. simp op)
 
       pub to-misc : controlOf w ≡ true → field w 7 1 ≡ 0 → decodeOf w addr ≡ miscOf w addr
       unfolding decodeOf groupOf dpMiscOf plainOf
@@ -139,9 +154,13 @@ module _ (i : Insn) (plain : isAddress (at i 0) ≡ false) where
   unfolding wordOf
   named-preload is = simp (plain, after 125 128 is, within 125 128 is)
 
-  pub named-barrier : (hi : ℕ) → inside 129 hi (i .name) ≡ true → wordOf i ≡ barrierWord i
+  pub named-barrier : inside 129 132 (i .name) ≡ true → wordOf i ≡ barrierWord i
   unfolding wordOf
-  named-barrier hi is = simp (plain, after 129 hi is)
+  named-barrier is = simp (plain, after 129 132 is, within 129 132 is)
+
+  pub named-halfword : (hi : ℕ) → inside 133 hi (i .name) ≡ true → wordOf i ≡ halfwordWord i
+  unfolding wordOf
+  named-halfword hi is = simp (plain, after 133 hi is)
 
 module _ (i : Insn) (goes : isAddress (at i 0) ≡ true) where
   pub named-address : wordOf i ≡ pick (eqb (i .name) BLX) (blxWord i) (branchWord i)

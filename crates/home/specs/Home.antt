@@ -10,7 +10,7 @@ use Rattle.a32.specs.Decode.{controlOf, decodeOf}
 use Rattle.dp.specs.DpImm.{hintSlot}
 use Rattle.transfer.specs.Unconditional.{barrierSlot, preloadSlot}
 use Rattle.home.specs.declared.Homed.{Homed}
-use Rattle.home.specs.Table.{Ignored, ignored, laid, ALL-READ, MOVES, COMPARES, MRS-ROW, MSR-REGISTER, MSR-IMMEDIATE, EXCHANGES, CLZ-ROW, SATURATING, EXCLUSIVE-STORES, EXCLUSIVE-LOADS, EXTRA-INDEX, HINTS, MUL-ROW, DIVIDES, SATURATES, CLREX-ROW}
+use Rattle.home.specs.Table.{Ignored, ignored, laid, ALL-READ, MOVES, COMPARES, MRS-ROW, MSR-REGISTER, MSR-IMMEDIATE, EXCHANGES, CLZ-ROW, SATURATING, EXCLUSIVE-STORES, EXCLUSIVE-LOADS, EXTRA-INDEX, HINTS, PRODUCTS, DIVIDES, SATURATES, CLREX-ROW}
 
 -- one fold that clears a row's fields
 abbrev pub clearAll : List Ignored → ℕ → ℕ
@@ -52,7 +52,7 @@ dpRegRow w = pick (eqb (field w 23 2) 2) (pick (eqb (field w 12 4) 15) ALL-READ 
 
 -- mul, by 23:21; exclusive stores and loads, by bit 20; the index form of the extra loads and stores, by bit 22
 abbrev pub multiplyRow : ℕ → ℕ
-multiplyRow w = pick (eqb (field w 21 3) 0) MUL-ROW ALL-READ
+multiplyRow w = pick (eqb (field w 21 3) 0) PRODUCTS ALL-READ
 
 abbrev pub exclusiveRow : ℕ → ℕ
 exclusiveRow w = pick (eqb (field w 20 1) 0) EXCLUSIVE-STORES EXCLUSIVE-LOADS
@@ -65,8 +65,14 @@ unfoldable pub extraRow : ℕ → ℕ
 extraRow w =
     pick (eqb (field w 5 2) 0) (pick (eqb (field w 24 1) 0) (multiplyRow w) (exclusiveRow w)) (indexRow w)
 
+-- halfword multiplies, by 22:21: smul; of 01, smulw, by bit 5
+unfoldable pub halfwordRow : ℕ → ℕ
+halfwordRow w =
+    pick (eqb (field w 21 2) 3) PRODUCTS
+    (pick (eqb (field w 21 2) 1) (pick (eqb (field w 5 1) 0) ALL-READ PRODUCTS) ALL-READ)
+
 unfoldable pub plainRow : ℕ → ℕ
-plainRow w = pick (controlOf w) (controlRow w) (dpRegRow w)
+plainRow w = pick (controlOf w) (pick (eqb (field w 7 1) 0) (controlRow w) (halfwordRow w)) (dpRegRow w)
 
 unfoldable pub dpMiscRow : ℕ → ℕ
 dpMiscRow w = pick (eqb (field w 4 1) 0) (plainRow w) (pick (eqb (field w 7 1) 0) (plainRow w) (extraRow w))

@@ -1,4 +1,4 @@
--- 01, "Home words", and 02, P1, as a table: the rows that ignore bits, and the fields that each ignores.
+-- 01, "Home words", and 02, P1 and P3, as a table: the rows that ignore bits, and the fields that each ignores.
 use mathlib.Core.List.{List, [], _∷_}
 use Prim.Native.Nat.{ℕ, _+_, _-_}
 use lib.ListN.{getD}
@@ -52,8 +52,8 @@ EXTRA-INDEX = 11
 abbrev pub HINTS : ℕ
 HINTS = 12
 
-abbrev pub MUL-ROW : ℕ
-MUL-ROW = 13
+abbrev pub PRODUCTS : ℕ
+PRODUCTS = 13
 
 abbrev pub DIVIDES : ℕ
 DIVIDES = 14
@@ -88,7 +88,7 @@ table =
     (bits 11 8 ∷ bits 3 0 ∷ []) ∷
     (bits 11 8 ∷ []) ∷
     (bits 11 8 ∷ []) ∷
-    -- "mul, sdiv, udiv: 15:12."
+    -- "mul, sdiv, udiv: 15:12."; 02, P3: "smul and smulw ignore 15:12", as mul does
     (bits 15 12 ∷ []) ∷
     (bits 15 12 ∷ []) ∷
     -- "ssat, usat: 20."

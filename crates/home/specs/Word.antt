@@ -3,11 +3,12 @@
 use Prim.Native.Nat.{ℕ}
 use lib.Dec.{eqb, leb}
 use Rattle.word.specs.Choice.{pick, both}
-use Rattle.insn.specs.Name.{RRX, BKPT, LDRSH, SEV, STRBT, UXTAH, PUSH, PLDW, MSR, BLX}
+use Rattle.insn.specs.Name.{RRX, BKPT, LDRSH, SEV, STRBT, UXTAH, PUSH, PLDW, ISB, MSR, BLX}
 use Rattle.insn.specs.declared.Insn.{Insn}
 use Rattle.parts.specs.Parts.{at, isAddress, isCount}
 use Rattle.home.specs.WordDp.{dpWord, wideWord, msrImmediateWord}
 use Rattle.home.specs.WordMisc.{miscWord}
+use Rattle.home.specs.WordMultiply.{halfwordWord}
 use Rattle.home.specs.WordExtra.{extraWord}
 use Rattle.home.specs.WordLdst.{ldstWord}
 use Rattle.home.specs.WordMedia.{mediaWord}
@@ -28,4 +29,5 @@ wordOf i =
     (pick (leb (i .name) STRBT) (ldstWord i)
     (pick (leb (i .name) UXTAH) (mediaWord i)
     (pick (leb (i .name) PUSH) (blockWord i)
-    (pick (leb (i .name) PLDW) (preloadWord i) (barrierWord i)))))))))
+    (pick (leb (i .name) PLDW) (preloadWord i)
+    (pick (leb (i .name) ISB) (barrierWord i) (halfwordWord i))))))))))

@@ -108,7 +108,7 @@ const IGNORED: [u64; 17] = [
     0x0004_0804, // exclusive loads
     0x0804, // extra index form
     0x0804, // hints
-    0x0c04, // mul
+    0x0c04, // mul, smul, smulw
     0x0c04, // sdiv, udiv
     0x1401, // ssat, usat
     0x0004, // clrex

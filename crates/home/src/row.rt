@@ -5,7 +5,7 @@ use transfer::unconditional::is_barrier;
 use word::bit;
 use word::bits;
 ghost use mathlib.Core.Path.{_≡_};
-ghost use Rattle.home.specs.Home.{controlRow, moveRow, dpRegRow, extraRow, plainRow, dpMiscRow, dpImmRow, mediaRow, barrierRow, rowOf, exchangeRow, statusRow, exclusiveRow, multiplyRow, indexRow};
+ghost use Rattle.home.specs.Home.{controlRow, halfwordRow, moveRow, dpRegRow, extraRow, plainRow, dpMiscRow, dpImmRow, mediaRow, barrierRow, rowOf, exchangeRow, statusRow, exclusiveRow, multiplyRow, indexRow};
 
 const ALL_READ: usize = 0;
 
@@ -33,7 +33,7 @@ const EXTRA_INDEX: usize = 11;
 
 const HINTS: usize = 12;
 
-const MUL: usize = 13;
+const PRODUCTS: usize = 13;
 
 const DIVIDES: usize = 14;
 
@@ -75,10 +75,27 @@ fn dp_misc_row(w: u32) -> usize
 fn plain_row(w: u32) -> usize
     ensures { λ r. ⌜ r ≡ plainRow w ⌝ }
 {
+    let high = bit(w, 7);
     if is_control(w) {
-        control_row(w)
+        if high == 0 {
+            control_row(w)
+        } else {
+            halfword_row(w)
+        }
     } else {
         dp_reg_row(w)
+    }
+}
+
+fn halfword_row(w: u32) -> usize
+    ensures { λ r. ⌜ r ≡ halfwordRow w ⌝ }
+{
+    let op = bits(w, 22, 21);
+    let alone = bit(w, 5);
+    match op {
+        0b11 => PRODUCTS,
+        0b01 => { if alone == 0 { ALL_READ } else { PRODUCTS } }
+        _ => ALL_READ,
     }
 }
 
@@ -156,7 +173,7 @@ fn multiply_row(w: u32) -> usize
     ensures { λ r. ⌜ r ≡ multiplyRow w ⌝ }
 {
     let op = bits(w, 23, 21);
-    if op == 0b000 { MUL } else { ALL_READ }
+    if op == 0b000 { PRODUCTS } else { ALL_READ }
 }
 
 fn exclusive_row(w: u32) -> usize

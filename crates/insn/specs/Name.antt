@@ -1,4 +1,4 @@
--- The names by number: the 129 roots that a32.rs answers, in the order in which it first spells them, then the barriers.
+-- The names by number: the 129 roots that a32.rs answers, in the order in which it first spells them, then the barriers, then the halfword multiplies.
 use Prim.Native.Nat.{ℕ}
 
 -- DP and DP_S: the data processing names, plain and setting the flags
@@ -413,6 +413,55 @@ DMB = 131
 abbrev pub ISB : ℕ
 ISB = 132
 
+-- halfword multiplies: by 22:21, then bit 5, then bit 6
+abbrev pub SMLABB : ℕ
+SMLABB = 133
+
+abbrev pub SMLABT : ℕ
+SMLABT = 134
+
+abbrev pub SMLATB : ℕ
+SMLATB = 135
+
+abbrev pub SMLATT : ℕ
+SMLATT = 136
+
+abbrev pub SMLAWB : ℕ
+SMLAWB = 137
+
+abbrev pub SMLAWT : ℕ
+SMLAWT = 138
+
+abbrev pub SMULWB : ℕ
+SMULWB = 139
+
+abbrev pub SMULWT : ℕ
+SMULWT = 140
+
+abbrev pub SMLALBB : ℕ
+SMLALBB = 141
+
+abbrev pub SMLALBT : ℕ
+SMLALBT = 142
+
+abbrev pub SMLALTB : ℕ
+SMLALTB = 143
+
+abbrev pub SMLALTT : ℕ
+SMLALTT = 144
+
+abbrev pub SMULBB : ℕ
+SMULBB = 145
+
+abbrev pub SMULBT : ℕ
+SMULBT = 146
+
+abbrev pub SMULTB : ℕ
+SMULTB = 147
+
+abbrev pub SMULTT : ℕ
+SMULTT = 148
+
 -- how many there are
 abbrev pub NAMES : ℕ
-NAMES = 133
+NAMES = 149

@@ -2,17 +2,31 @@
 use mathlib.Core.Path.{_≡_, refl, ap, sym}
 use mathlib.Core.Bool.{true, false}
 use Prim.Native.Nat.{ℕ, _*_, _+_}
+use native.Mathlib.Omega.{arith}
 use borrow.Author.Tests.{eqb-true}
 use lib.Dec.{eqb}
 use Rattle.word.specs.Field.{field}
+use Rattle.insn.specs.Name as N
 use Rattle.insn.specs.declared.Decoded.{Decoded}
+use Rattle.multiply.specs.Halfword.{halfOf, halvesOf}
 use Rattle.a32.specs.Decode as D
 use Rattle.a32.specs.Decode.{decodeOf, groupOf, dpMiscOf, controlOf}
 use Rattle.manual.specs.A5 as A
 use Rattle.manual.specs.A8.{saidOf, pageOf}
 use Rattle.manual.specs.Departures.{standingOf}
-use Rattle.manual.proofs.Fields.{HeldAt, holds, ops, controls, lows, groups, bits, rn-bits, by-field, split, conditions, _also_}
+use Rattle.manual.specs.Reads.{half, halves}
+use Rattle.manual.proofs.Fields.{HeldAt, holds, ops, controls, lows, low-bits, groups, bits, rn-bits, by-field, split, conditions, _also_}
 use Rattle.manual.proofs.Pages.{undefined-held}
+
+-- names that stand in a row are counted on from the first, by bit 6, and by bits 5 and 6
+half-is : (w n : ℕ) → half w n (n + 1) ≡ halfOf w n
+half-is w n = by-field w 6 1 ((λ e. simp e (omega arith)) also (λ e. simp e (omega arith)) also tt)
+
+halves-is : (w n : ℕ) → halves w n (n + 1) (n + 2) (n + 3) ≡ halvesOf w n
+halves-is w n =
+    by-field w 5 1
+    ((λ e. by-field w 6 1 ((λ f. simp (e, f) (omega arith)) also (λ f. simp (e, f) (omega arith)) also tt)) also
+    (λ e. by-field w 6 1 ((λ f. simp (e, f) (omega arith)) also (λ f. simp (e, f) (omega arith)) also tt)) also tt)
 
 module _ (w addr : ℕ) (cond : eqb (field w 28 4) 15 ≡ false) (group : field w 25 3 ≡ 0) where
   -- 7:4 = 1001, by 24:20
@@ -138,38 +152,16 @@ module _ (w addr : ℕ) (cond : eqb (field w 28 4) 15 ≡ false) (group : field 
         (λ e. simp (controls, lows, groups, cond, group, op, s, low, e) (holds refl)) also
         (λ e. simp (controls, lows, groups, cond, group, op, s, low, e) (holds refl)) also tt)
 
-    pub halves-8 : field w 4 4 ≡ 8 → HeldAt w addr
-    unfolding decodeOf groupOf dpMiscOf D.plainOf controlOf saidOf pageOf standingOf A.tableRow A.dataProcessing A.halfwordMultiply
-    halves-8 low =
-        by-field w 21 2
-        ((λ e. simp (controls, lows, groups, cond, group, op, s, low, e) (holds refl)) also
-        (λ e. simp (controls, lows, groups, cond, group, op, s, low, e) (holds refl)) also
-        (λ e. simp (controls, lows, groups, cond, group, op, s, low, e) (holds refl)) also
-        (λ e. simp (controls, lows, groups, cond, group, op, s, low, e) (holds refl)) also tt)
-
-    pub halves-10 : field w 4 4 ≡ 10 → HeldAt w addr
-    unfolding decodeOf groupOf dpMiscOf D.plainOf controlOf saidOf pageOf standingOf A.tableRow A.dataProcessing A.halfwordMultiply
-    halves-10 low =
-        by-field w 21 2
-        ((λ e. simp (controls, lows, groups, cond, group, op, s, low, e) (holds refl)) also
-        (λ e. simp (controls, lows, groups, cond, group, op, s, low, e) (holds refl)) also
-        (λ e. simp (controls, lows, groups, cond, group, op, s, low, e) (holds refl)) also
-        (λ e. simp (controls, lows, groups, cond, group, op, s, low, e) (holds refl)) also tt)
-
-    pub halves-12 : field w 4 4 ≡ 12 → HeldAt w addr
-    unfolding decodeOf groupOf dpMiscOf D.plainOf controlOf saidOf pageOf standingOf A.tableRow A.dataProcessing A.halfwordMultiply
-    halves-12 low =
-        by-field w 21 2
-        ((λ e. simp (controls, lows, groups, cond, group, op, s, low, e) (holds refl)) also
-        (λ e. simp (controls, lows, groups, cond, group, op, s, low, e) (holds refl)) also
-        (λ e. simp (controls, lows, groups, cond, group, op, s, low, e) (holds refl)) also
-        (λ e. simp (controls, lows, groups, cond, group, op, s, low, e) (holds refl)) also tt)
-
-    pub halves-14 : field w 4 4 ≡ 14 → HeldAt w addr
-    unfolding decodeOf groupOf dpMiscOf D.plainOf controlOf saidOf pageOf standingOf A.tableRow A.dataProcessing A.halfwordMultiply
-    halves-14 low =
-        by-field w 21 2
-        ((λ e. simp (controls, lows, groups, cond, group, op, s, low, e) (holds refl)) also
-        (λ e. simp (controls, lows, groups, cond, group, op, s, low, e) (holds refl)) also
-        (λ e. simp (controls, lows, groups, cond, group, op, s, low, e) (holds refl)) also
-        (λ e. simp (controls, lows, groups, cond, group, op, s, low, e) (holds refl)) also tt)
+    -- the halfword multiplies: a page reads four names, or two, that stand in a row
+    module _ (seven : field w 7 1 ≡ 1) (four : field w 4 1 ≡ 0) where
+      pub halfword : HeldAt w addr
+      unfolding decodeOf groupOf dpMiscOf D.plainOf controlOf saidOf pageOf standingOf A.tableRow A.dataProcessing A.halfwordMultiply
+      halfword =
+          by-field w 21 2
+          ((λ e. simp (controls, low-bits, groups, cond, group, op, s, seven, four, e) (holds (simp (← halves-is w N.SMLABB)))) also
+          (λ e.
+          by-field w 5 1
+          ((λ x. simp (controls, low-bits, groups, cond, group, op, s, seven, four, e, x) (holds (simp (← half-is w N.SMLAWB)))) also
+          (λ x. simp (controls, low-bits, groups, cond, group, op, s, seven, four, e, x) (holds (simp (← half-is w N.SMULWB)))) also tt)) also
+          (λ e. simp (controls, low-bits, groups, cond, group, op, s, seven, four, e) (holds (simp (← halves-is w N.SMLALBB)))) also
+          (λ e. simp (controls, low-bits, groups, cond, group, op, s, seven, four, e) (holds (simp (← halves-is w N.SMULBB)))) also tt)

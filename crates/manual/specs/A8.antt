@@ -2,7 +2,7 @@
 -- reads. The pages stand in the order of A5's tables. A row without a page here is named and not read.
 --
 -- Bits that a page draws in parentheses should be as drawn, and are not tested: 19:16 of MOV, MVN and the shifts; 15:12 of the compares, of MUL,
--- SDIV, UDIV, MSR and the hints; 19:16, 11:10, 8 and 3:0 of MRS; 11:10 and 8 of MSR; 19:8 of BX, BXJ and BLX; 19:16 and 11:8 of CLZ and the
+-- SMUL<x><y>, SMULW<y>, SDIV, UDIV, MSR and the hints; 19:16, 11:10, 8 and 3:0 of MRS; 11:10 and 8 of MSR; 19:8 of BX, BXJ and BLX; 19:16 and 11:8 of CLZ and the
 -- reversals; 11:8 of the saturating adds, the exclusives, the hints and the extra forms by register, and 3:0 of the exclusive loads; 9:8 of the
 -- extends; 24 and 21 of the loads from R[15]; 15:12 of the preloads; 19:8 of CLREX and the barriers, and 3:0 of CLREX.
 use mathlib.Core.Bool.{Bool, true, false, not}
@@ -28,7 +28,7 @@ use Rattle.insn.specs.declared.Operand.the-variants.{Register, Count, Number, S
 use Rattle.insn.specs.declared.Operand.the-variants as Op
 use Rattle.insn.specs.declared.Status.the-variants.{Apsr, Spsr}
 use Rattle.manual.specs.A5.{tableRow}
-use Rattle.manual.specs.Reads.{isSet, R, setflags, writesPC, branchesTo, DecodeImmShift, shifted, registerShifted, shiftCount, constant, SignExtend, addressing, offset, isMinusZero, memory, isPost, indexed, saturateShift, rotation}
+use Rattle.manual.specs.Reads.{isSet, R, setflags, half, halves, writesPC, branchesTo, DecodeImmShift, shifted, registerShifted, shiftCount, constant, SignExtend, addressing, offset, isMinusZero, memory, isPost, indexed, saturateShift, rotation}
 
 abbrev pub isAmong : String → List String → Bool
 isAmong row [] = false
@@ -110,9 +110,6 @@ pub data Said : Type 0 where
 -- the rows that the decoder refuses
 abbrev pub refusedRows : List String
 refusedRows =
-    -- A5.2.7
-    "SMLABB, SMLABT, SMLATB, SMLATT" ∷ "SMLAWB, SMLAWT" ∷ "SMULWB, SMULWT" ∷ "SMLALBB, SMLALBT, SMLALTB, SMLALTT" ∷
-    "SMULBB, SMULBT, SMULTB, SMULTT" ∷
     -- A5.2.9
     "STRHT" ∷ "LDRHT" ∷ "LDRSBT" ∷ "LDRSHT" ∷
     -- A5.2.10
@@ -358,6 +355,12 @@ module _ (w addr : ℕ) where
       ("QSUB" := reading N.QSUB Next (R w 12 ∷ R w 0 ∷ R w 16 ∷ [])) ∷
       ("QDADD" := reading N.QDADD Next (R w 12 ∷ R w 0 ∷ R w 16 ∷ [])) ∷
       ("QDSUB" := reading N.QDSUB Next (R w 12 ∷ R w 0 ∷ R w 16 ∷ [])) ∷
+      -- A5.2.7: d, n, m, a, dHi and dLo as in A5.2.5
+      ("SMLABB, SMLABT, SMLATB, SMLATT" := reading (halves w N.SMLABB N.SMLABT N.SMLATB N.SMLATT) Next (R w 16 ∷ R w 0 ∷ R w 8 ∷ R w 12 ∷ [])) ∷
+      ("SMLAWB, SMLAWT" := reading (half w N.SMLAWB N.SMLAWT) Next (R w 16 ∷ R w 0 ∷ R w 8 ∷ R w 12 ∷ [])) ∷
+      ("SMULWB, SMULWT" := reading (half w N.SMULWB N.SMULWT) Next (R w 16 ∷ R w 0 ∷ R w 8 ∷ [])) ∷
+      ("SMLALBB, SMLALBT, SMLALTB, SMLALTT" := reading (halves w N.SMLALBB N.SMLALBT N.SMLALTB N.SMLALTT) Next (R w 12 ∷ R w 16 ∷ R w 0 ∷ R w 8 ∷ [])) ∷
+      ("SMULBB, SMULBT, SMULTB, SMULTT" := reading (halves w N.SMULBB N.SMULBT N.SMULTB N.SMULTT) Next (R w 16 ∷ R w 0 ∷ R w 8 ∷ [])) ∷
       -- A5.2.8
       ("STRH (register)" := extraIndex "STRH (register)" N.STRH 2 one) ∷
       ("LDRH (register)" := extraIndex "LDRH (register)" N.LDRH 2 one) ∷

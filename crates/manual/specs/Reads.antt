@@ -31,6 +31,13 @@ R w lo = Register (record { 0 = field w lo 4 })
 abbrev pub setflags : ℕ → ℕ → ℕ → ℕ
 setflags w plain s = pick (isSet w 20) s plain
 
+-- "<y> .. If <y> is B, then M == '0' .. If <y> is T, then M == '1'", bit 6; "<x>" likewise by N, bit 5
+abbrev pub half : ℕ → ℕ → ℕ → ℕ
+half w b t = pick (isSet w 6) t b
+
+abbrev pub halves : ℕ → ℕ → ℕ → ℕ → ℕ → ℕ
+halves w bb bt tb tt = pick (isSet w 5) (half w tb tt) (half w bb bt)
+
 -- "if d == 15 then ALUWritePC(result)", "if t == 15 then .. LoadWritePC(data)"
 abbrev pub writesPC : ℕ → Flow
 writesPC w = pick (eqb (field w 12 4) 15) IndirectBranch Next

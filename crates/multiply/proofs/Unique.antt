@@ -2,10 +2,14 @@
 -- Assumes nothing.
 use mathlib.Core.Path.{_≡_, _∙_, sym}
 use Rattle.multiply.proofs.multiply.Reads as multiply
+use Rattle.multiply.proofs.halfword.Reads as halfword
 use Rattle.multiply.proofs.sync.Reads as sync
 
 pub multiply-only : (κs : _) (a : _) (r r′ : _) (s s′ : _) → multiply.Post κs a r s → multiply.Post κs a r′ s′ → r ≡ r′
 multiply-only κs a r r′ s s′ p q = p ∙ sym q
+
+pub halfword-only : (κs : _) (a : _) (r r′ : _) (s s′ : _) → halfword.Post κs a r s → halfword.Post κs a r′ s′ → r ≡ r′
+halfword-only κs a r r′ s s′ p q = p ∙ sym q
 
 pub sync-only : (κs : _) (a : _) (r r′ : _) (s s′ : _) → sync.Post κs a r s → sync.Post κs a r′ s′ → r ≡ r′
 sync-only κs a r r′ s s′ p q = p ∙ sym q

@@ -1,2 +1,3 @@
+pub mod Halfword
 pub mod Multiply
 pub mod Sync

@@ -13,6 +13,10 @@ use Rattle.arm.specs.Row.{among, _⇒_, byS, regOf, answer, noRow}
 abbrev pub longOf : ℕ → ℕ → ℕ → Decoded
 longOf w addr name = answer w addr name Next (regOf w 12 ∷ regOf w 16 ∷ regOf w 0 ∷ regOf w 8 ∷ [])
 
+-- "mul: 19:16, 3:0, 11:8"
+abbrev pub productOf : ℕ → ℕ → ℕ → Decoded
+productOf w addr name = answer w addr name Next (regOf w 16 ∷ regOf w 0 ∷ regOf w 8 ∷ [])
+
 -- "mla and mls add 15:12"
 abbrev pub addingOf : ℕ → ℕ → ℕ → Decoded
 addingOf w addr name = answer w addr name Next (regOf w 16 ∷ regOf w 0 ∷ regOf w 8 ∷ regOf w 12 ∷ [])
@@ -24,7 +28,7 @@ abbrev pub multiplyOf : ℕ → ℕ → Decoded
 multiplyOf w addr =
     among (field w 21 3)
     (
-    0 ⇒ answer w addr (byS w MUL MULS) Next (regOf w 16 ∷ regOf w 0 ∷ regOf w 8 ∷ []) ∷
+    0 ⇒ productOf w addr (byS w MUL MULS) ∷
     1 ⇒ addingOf w addr (byS w MLA MLAS) ∷
     2 ⇒ clearS w (longOf w addr UMAAL) ∷
     3 ⇒ clearS w (addingOf w addr MLS) ∷

@@ -1,4 +1,4 @@
-//! The multiplies and the exclusives, a32.rs's `multiply` and `sync`.
+//! The multiplies and the exclusives, a32.rs's `multiply` and `sync`, and the halfword multiplies, which a32.rs leaves out.
 use arm::NO_ROW;
 use arm::RD;
 use arm::RM;
@@ -19,35 +19,20 @@ use insn::refuse;
 use word::bit;
 use word::bits;
 ghost use mathlib.Core.Path.{_≡_};
-ghost use Rattle.multiply.specs.Multiply.{multiplyOf, longOf};
+ghost use Prim.Native.Nat.{_<_};
+ghost use Rattle.multiply.specs.Multiply.{multiplyOf, productOf, addingOf, longOf};
+ghost use Rattle.multiply.specs.Halfword.{halfwordOf, halvesOf, halfOf};
 ghost use Rattle.multiply.specs.Sync.{syncOf, loadOf, storeOf};
 
-/// Table A5-4, minus the halfword multiplies: `mul` through `smlal`.
+/// Table A5-7: `mul` through `smlal`.
 pub fn multiply(w: u32, addr: u64) -> Decoded
     ensures { λ r. ⌜ r ≡ multiplyOf w addr ⌝ }
 {
     let op = bits(w, 23, 21);
     let s = bit(w, 20);
     match op {
-        0b000 => three(
-            w,
-            addr,
-            by_s(w, name::MUL, name::MULS),
-            Flow::Next,
-            RN,
-            RM,
-            RS,
-        ),
-        0b001 => four(
-            w,
-            addr,
-            by_s(w, name::MLA, name::MLAS),
-            Flow::Next,
-            RN,
-            RM,
-            RS,
-            RD,
-        ),
+        0b000 => product(w, addr, by_s(w, name::MUL, name::MULS)),
+        0b001 => adding(w, addr, by_s(w, name::MLA, name::MLAS)),
         0b010 => {
             if s == 0 {
                 long(w, addr, name::UMAAL)
@@ -57,7 +42,7 @@ pub fn multiply(w: u32, addr: u64) -> Decoded
         }
         0b011 => {
             if s == 0 {
-                four(w, addr, name::MLS, Flow::Next, RN, RM, RS, RD)
+                adding(w, addr, name::MLS)
             } else {
                 refuse(NO_ROW)
             }
@@ -70,11 +55,60 @@ pub fn multiply(w: u32, addr: u64) -> Decoded
     }
 }
 
+fn product(w: u32, addr: u64, name: u16) -> Decoded
+    ensures { λ r. ⌜ r ≡ productOf w addr name ⌝ }
+{
+    three(w, addr, name, Flow::Next, RN, RM, RS)
+}
+
+/// A product that is added to a register, or taken from it.
+fn adding(w: u32, addr: u64, name: u16) -> Decoded
+    ensures { λ r. ⌜ r ≡ addingOf w addr name ⌝ }
+{
+    four(w, addr, name, Flow::Next, RN, RM, RS, RD)
+}
+
 /// The long multiplies, whose result takes two registers.
 fn long(w: u32, addr: u64, name: u16) -> Decoded
     ensures { λ r. ⌜ r ≡ longOf w addr name ⌝ }
 {
     four(w, addr, name, Flow::Next, RD, RN, RM, RS)
+}
+
+/// Table A5-9: the halfword multiplies, each name from that of the lower halves on.
+pub fn halfword(w: u32, addr: u64) -> Decoded
+    ensures { λ r. ⌜ r ≡ halfwordOf w addr ⌝ }
+{
+    let op = bits(w, 22, 21);
+    let alone = bit(w, 5);
+    match op {
+        0b00 => adding(w, addr, halves(w, name::SMLABB)),
+        0b01 => {
+            if alone == 0 {
+                adding(w, addr, half(w, name::SMLAWB))
+            } else {
+                product(w, addr, half(w, name::SMULWB))
+            }
+        }
+        0b10 => long(w, addr, halves(w, name::SMLALBB)),
+        _ => product(w, addr, halves(w, name::SMULBB)),
+    }
+}
+
+/// The halves of Rm, by bit 5, and of Rs.
+fn halves(w: u32, name: u16) -> u16
+    requires { ⌜ name < 0x8000 ⌝ }
+    ensures { λ r. ⌜ r ≡ halvesOf w name ⌝ }
+{
+    half(w, name + bit(w, 5) as u16 * 2)
+}
+
+/// The half of Rs, by bit 6: bottom or top.
+fn half(w: u32, name: u16) -> u16
+    requires { ⌜ name < 0x8002 ⌝ }
+    ensures { λ r. ⌜ r ≡ halfOf w name ⌝ }
+{
+    name + bit(w, 6) as u16
 }
 
 /// The load-exclusive family; the rest of table A5-5 is left alone.

@@ -80,7 +80,15 @@ const ROOTS_31: [u8; 32] = *b"push    bl      b       pld     ";
 
 const ROOTS_32: [u8; 32] = *b"pldw    clrex   dsb     dmb     ";
 
-const ROOTS_33: [u8; 32] = *b"isb                             ";
+const ROOTS_33: [u8; 32] = *b"isb     smlabb  smlabt  smlatb  ";
+
+const ROOTS_34: [u8; 32] = *b"smlatt  smlawb  smlawt  smulwb  ";
+
+const ROOTS_35: [u8; 32] = *b"smulwt  smlalbb smlalbt smlaltb ";
+
+const ROOTS_36: [u8; 32] = *b"smlaltt smulbb  smulbt  smultb  ";
+
+const ROOTS_37: [u8; 32] = *b"smultt                          ";
 
 /// By condition.
 const SUFFIXES: [u8; 32] = *b"\
@@ -168,6 +176,10 @@ fn roots_with(name: u16) -> [u8; 32]
         31 => ROOTS_31,
         32 => ROOTS_32,
         33 => ROOTS_33,
+        34 => ROOTS_34,
+        35 => ROOTS_35,
+        36 => ROOTS_36,
+        37 => ROOTS_37,
         _ => [b' '; 32],
     }
 }

@@ -13,6 +13,7 @@ use Rattle.insn.specs.declared.Insn.{Insn}
 use Rattle.dp.specs.DpReg.{dpRegOf}
 use Rattle.dp.specs.DpImm.{dpImmOf}
 use Rattle.misc.specs.Misc.{miscOf}
+use Rattle.multiply.specs.Halfword.{halfwordOf}
 use Rattle.multiply.specs.Multiply.{multiplyOf}
 use Rattle.multiply.specs.Sync.{syncOf}
 use Rattle.ldst.specs.ExtraLdst.{extraLdstOf}
@@ -72,6 +73,9 @@ module _ (w addr : ℕ) where
   multiply : Only (multiplyOf w addr)
   multiply = only (simp laws)
 
+  halfword : Only (halfwordOf w addr)
+  halfword = only (simp laws)
+
   sync : Only (syncOf w addr)
   sync = only (simp laws)
 
@@ -98,7 +102,7 @@ module _ (w addr : ℕ) where
 
   plain : Only (plainOf w addr)
   unfolding plainOf
-  plain = choice (controlOf w) (choice (eqb (field w 7 1) 0) misc (only no-row-b)) dp-reg
+  plain = choice (controlOf w) (choice (eqb (field w 7 1) 0) misc halfword) dp-reg
 
   extra : Only (extraOf w addr)
   unfolding extraOf

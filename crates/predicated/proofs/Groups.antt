@@ -12,6 +12,7 @@ use Rattle.dp.specs.Names.{dpName, shiftName}
 use Rattle.dp.specs.DpReg.{dpRegOf}
 use Rattle.dp.specs.DpImm.{hintSlot, dpImmOf}
 use Rattle.misc.specs.Misc.{miscOf}
+use Rattle.multiply.specs.Halfword.{halfwordOf}
 use Rattle.multiply.specs.Multiply.{multiplyOf}
 use Rattle.multiply.specs.Sync.{syncOf}
 use Rattle.ldst.specs.Mem.{unprivilegedOf, postOf, minusZeroOf}
@@ -33,6 +34,9 @@ module _ (w v addr : ℕ) (alike : Alike w v) where
 
   pub multiply : Once multiplyOf
   multiply = simp (laws, fields-alike w v alike)
+
+  pub halfword : Once halfwordOf
+  halfword = simp (laws, fields-alike w v alike)
 
   pub sync : Once syncOf
   sync = simp (laws, fields-alike w v alike)

@@ -42,7 +42,7 @@ module _ (w v addr : ℕ) (alike : Alike w v) where
 
   plain : At plainOf
   unfolding plainOf
-  plain = choice control (choice (test 7 1 0 refl) (once (G.misc w v addr alike)) (once (sym (no-row-under _)))) (once (G.dp-reg w v addr alike))
+  plain = choice control (choice (test 7 1 0 refl) (once (G.misc w v addr alike)) (once (G.halfword w v addr alike))) (once (G.dp-reg w v addr alike))
 
   extra : At extraOf
   unfolding extraOf

@@ -4,14 +4,14 @@ use mathlib.Core.Bool.{Bool, true, false, not}
 use mathlib.Core.List.{List, [], _∷_}
 use Prim.Native.Nat.{ℕ, _^_, _<_, _≤_}
 use native.Mathlib.Omega.{arith}
-use borrow.Author.Tests.{ltb-true, not-true, lt-leb}
+use borrow.Author.Tests.{ltb-true, not-true, lt-leb, ne-eqb}
 use lib.Dec.{T, eqb, leb, ltb, ltb→lt, lt→ltb, lit<, lit≤}
 use lib.IntN.{pos, natAbs}
 use lib.ListN.{length}
-use Rattle.word.specs.Choice.{pick, both, inside, tested, parts, passes}
+use Rattle.word.specs.Choice.{pick, both, inside, tested, parts, passes, fails}
 use Rattle.word.specs.Field.{field, small}
 use Rattle.insn.specs.Answer.{places, refused}
-use Rattle.insn.specs.Name.{BKPT, BLX, STRH, LDRSH, MOVT, MOVW, LDR, STRBT, UDF, UBFX, PLD, DSB, NAMES}
+use Rattle.insn.specs.Name.{BKPT, BLX, STRH, LDRSH, MOVT, MOVW, LDR, STRBT, UDF, UBFX, PLD, DSB, ISB, NAMES}
 use Rattle.insn.specs.Numbers.{shiftNumber, flowNumber}
 use Rattle.insn.specs.declared.AddrMode.{AddrMode}
 use Rattle.insn.specs.declared.Decoded.{Decoded}
@@ -28,7 +28,7 @@ use Rattle.ldst.specs.Mem.{isPost}
 
 -- what follows a `#` under a name: a count, 0; a bit pattern, which reads as a count does, 1; or an option that has no other name, 2
 abbrev pub hashed : ℕ → ℕ
-hashed n = pick (eqb n BKPT) 1 (pick (inside MOVT MOVW n) 1 (pick (inside UDF UBFX n) 1 (pick (leb DSB n) 2 0)))
+hashed n = pick (eqb n BKPT) 1 (pick (inside MOVT MOVW n) 1 (pick (inside UDF UBFX n) 1 (pick (inside DSB ISB n) 2 0)))
 
 -- the mark that the text leaves out: load/store "Post sets decimal", extra load/store "Decimal always set"
 abbrev pub decimalFor : ℕ → AddrMode → Bool
@@ -36,7 +36,7 @@ decimalFor n mode = pick (inside LDR STRBT n) (isPost mode) (inside STRH LDRSH n
 
 -- the names of condition 15, by the flow's number: a blx that calls, the preloads and the barriers
 abbrev pub unconditional : ℕ → ℕ → Bool
-unconditional n flow = pick (eqb n BLX) (eqb flow 4) (leb PLD n)
+unconditional n flow = pick (eqb n BLX) (eqb flow 4) (inside PLD ISB n)
 
 abbrev pub Indexed : Index → Type 0
 Indexed Absent = Unit
@@ -161,6 +161,11 @@ by-name w n c t flow =
 
     below : n < PLD
     below = ltb-true n PLD (tests .0)
+
+-- the same of the names after the barriers, the halfword multiplies
+pub by-half : (w n : ℕ) → eqb (field w 28 4) 15 ≡ false → ISB < n → n < NAMES → (flow : Flow) → Under w n flow
+by-half w n c past few flow =
+    (lt→ltb n NAMES few, c ∙ sym (simp (ne-eqb n BLX (λ e. omega arith), lt-leb n ISB past, fails)))
 
 -- a row's answer, by the number of its operands
 module _ (w : ℕ) {addr name : ℕ} {flow : Flow} (under : Under w name flow) where

@@ -9,7 +9,7 @@ use Rattle.a32.specs.Decode.{controlOf, plainOf, extraOf, dpMiscOf, groupOf, de
 use Rattle.spelling.proofs.Formed.{Good, choice, at, good-refusal, no-row}
 use Rattle.spelling.proofs.FormedDp.{dp-reg-good, dp-imm-good}
 use Rattle.spelling.proofs.FormedMisc.{misc-good}
-use Rattle.spelling.proofs.FormedMultiply.{multiply-good, sync-good}
+use Rattle.spelling.proofs.FormedMultiply.{multiply-good, halfword-good, sync-good}
 use Rattle.spelling.proofs.FormedLdst.{extra-good, ldst-good}
 use Rattle.spelling.proofs.FormedMedia.{media-good}
 use Rattle.spelling.proofs.FormedTransfer.{block-good, branch-good, unconditional-good}
@@ -18,7 +18,7 @@ module _ (w addr : ℕ) where
   module _ (c : eqb (field w 28 4) 15 ≡ false) where
     plain-good : Good addr (plainOf w addr)
     unfolding plainOf
-    plain-good = choice (controlOf w) (at (field w 7 1) 0 (misc-good w addr c) no-row) (dp-reg-good w addr c)
+    plain-good = choice (controlOf w) (at (field w 7 1) 0 (misc-good w addr c) (halfword-good w addr c)) (dp-reg-good w addr c)
 
     beside-good : Good addr (extraOf w addr)
     unfolding extraOf

@@ -1,16 +1,18 @@
--- Multiplies and exclusives are formed. Assumes nothing.
+-- Multiplies, halfword multiplies and exclusives are formed. Assumes nothing.
 use mathlib.Core.Path.{_≡_, refl}
 use mathlib.Core.Bool.{Bool, false, true}
 use mathlib.Core.List.{[], _∷_}
-use Prim.Native.Nat.{ℕ}
+use Prim.Native.Nat.{ℕ, _+_, _*_, _<_, _≤_}
+use native.Mathlib.Omega.{arith}
 use lib.Dec.{T, eqb, ltb, lit<}
-use Rattle.word.specs.Field.{field}
+use Rattle.word.specs.Field.{field, small}
+use Rattle.insn.specs.Name.{SMLABB, SMLAWB, SMULWB, SMLALBB, SMULBB, ISB, NAMES}
 use Rattle.insn.specs.declared.AddrMode.the-variants.{Offset}
 use Rattle.insn.specs.declared.Flow.the-variants.{Next}
-use Rattle.arm.specs.Row.{regOf, answer}
-use Rattle.multiply.specs.Multiply.{longOf, addingOf, multiplyOf}
+use Rattle.multiply.specs.Halfword.{halfOf, halvesOf, halfwordOf}
+use Rattle.multiply.specs.Multiply.{productOf, longOf, addingOf, multiplyOf}
 use Rattle.multiply.specs.Sync.{memoryOf, syncOf}
-use Rattle.spelling.proofs.Formed.{reg, Good, Sound, decimalFor, Under, either, choice, at, no-row, row2, row3, row4}
+use Rattle.spelling.proofs.Formed.{reg, Good, Sound, decimalFor, Under, by-half, either, choice, at, no-row, row2, row3, row4}
 
 module _ (w addr : ℕ) (c : eqb (field w 28 4) 15 ≡ false) where
   abbrev clear : Bool
@@ -22,15 +24,16 @@ module _ (w addr : ℕ) (c : eqb (field w 28 4) 15 ≡ false) where
   long : {n : ℕ} → Under w n Next → Good addr (longOf w addr n)
   long under = row4 w under (reg w 12) (reg w 16) (reg w 0) (reg w 8) tt
 
+  product : {n : ℕ} → Under w n Next → Good addr (productOf w addr n)
+  product under = row3 w under (reg w 16) (reg w 0) (reg w 8) tt
+
   adding : {n : ℕ} → Under w n Next → Good addr (addingOf w addr n)
   adding under = row4 w under (reg w 16) (reg w 0) (reg w 8) (reg w 12) tt
 
   pub multiply-good : Good addr (multiplyOf w addr)
   multiply-good =
       at op 0
-      (either (λ n. Good addr (answer w addr n Next (regOf w 16 ∷ regOf w 0 ∷ regOf w 8 ∷ []))) clear
-      (row3 w (tt, c) (reg w 16) (reg w 0) (reg w 8) tt)
-      (row3 w (tt, c) (reg w 16) (reg w 0) (reg w 8) tt))
+      (either (λ n. Good addr (productOf w addr n)) clear (product (tt, c)) (product (tt, c)))
       (at op 1 (either (λ n. Good addr (addingOf w addr n)) clear (adding (tt, c)) (adding (tt, c)))
       (at op 2 (choice clear (long (tt, c)) no-row)
       (at op 3 (choice clear (adding (tt, c)) no-row)
@@ -39,6 +42,22 @@ module _ (w addr : ℕ) (c : eqb (field w 28 4) 15 ≡ false) where
       (at op 6 (either (λ n. Good addr (longOf w addr n)) clear (long (tt, c)) (long (tt, c)))
       (at op 7 (either (λ n. Good addr (longOf w addr n)) clear (long (tt, c)) (long (tt, c)))
       no-row)))))))
+
+  -- a name of the halfword multiplies with its half, or halves
+  half : (n : ℕ) → ISB < n → n + 1 < NAMES → Under w (halfOf w n) Next
+  half n past few = by-half w (halfOf w n) c (omega arith) (omega (arith, small w 6 1)) Next
+
+  halves : (n : ℕ) → ISB < n → n + 3 < NAMES → Under w (halvesOf w n) Next
+  halves n past few = half (n + field w 5 1 * 2) (omega arith) (omega (arith, small w 5 1))
+
+  pub halfword-good : Good addr (halfwordOf w addr)
+  halfword-good =
+      at (field w 21 2) 0 (adding (halves SMLABB (omega arith) (omega arith)))
+      (at (field w 21 2) 1
+      (at (field w 5 1) 0 (adding (half SMLAWB (omega arith) (omega arith))) (product (half SMULWB (omega arith) (omega arith))))
+      (at (field w 21 2) 2 (long (halves SMLALBB (omega arith) (omega arith)))
+      (at (field w 21 2) 3 (product (halves SMULBB (omega arith) (omega arith)))
+      no-row)))
 
   -- a memory form with no displacement
   memory : {name size : ℕ} → T (ltb size 10) → false ≡ decimalFor name Offset → Sound true name (memoryOf w size)

@@ -1,5 +1,5 @@
 -- The tables of names (01, "What is built": "Roots, suffixes, the 32 status masks and the shift names are fixed tables"), copied as facts
--- from a32.rs and mod.rs of source document 000.
+-- from a32.rs and mod.rs of source document 000; the halfword multiplies, which are not there, from 02, P3.
 use mathlib.Core.List.{List, [], _∷_}
 use Prim.Native.Nat.{ℕ}
 use Prim.Native.String.{String}
@@ -25,7 +25,9 @@ roots =
     "sxtab16" ∷ "sxtb" ∷ "sxtab" ∷ "sxth" ∷ "sxtah" ∷ "uxtb16" ∷ "uxtab16" ∷ "uxtb" ∷
     "uxtab" ∷ "uxth" ∷ "uxtah" ∷ "ldmda" ∷ "ldm" ∷ "ldmdb" ∷ "ldmib" ∷ "stmda" ∷
     "stm" ∷ "stmdb" ∷ "stmib" ∷ "pop" ∷ "push" ∷ "bl" ∷ "b" ∷ "pld" ∷
-    "pldw" ∷ "clrex" ∷ "dsb" ∷ "dmb" ∷ "isb" ∷
+    "pldw" ∷ "clrex" ∷ "dsb" ∷ "dmb" ∷ "isb" ∷ "smlabb" ∷ "smlabt" ∷ "smlatb" ∷
+    "smlatt" ∷ "smlawb" ∷ "smlawt" ∷ "smulwb" ∷ "smulwt" ∷ "smlalbb" ∷ "smlalbt" ∷ "smlaltb" ∷
+    "smlaltt" ∷ "smulbb" ∷ "smulbt" ∷ "smultb" ∷ "smultt" ∷
     []
 
 -- by condition: "eq ne hs lo mi pl vs vc hi ls ge lt gt le, then nothing for 14 and 15"

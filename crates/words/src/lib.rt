@@ -6,6 +6,7 @@ use group_words::extra::extra_word;
 use group_words::ldst::ldst_word;
 use group_words::media::media_word;
 use group_words::misc::misc_word;
+use group_words::multiply::halfword_word;
 use insn::Insn;
 use insn::name;
 use parts::read::ADDRESS;
@@ -84,5 +85,8 @@ pub fn word_of(i: Insn) -> u32
     if n <= name::PLDW {
         return preload_word(i);
     }
-    barrier_word(i)
+    if n <= name::ISB {
+        return barrier_word(i);
+    }
+    halfword_word(i)
 }

@@ -1,6 +1,6 @@
-// Compares the lines of COUNT words from FIRST on, in which no word has more than one operand, with what a disassembler, WHO, reads: the
-// name, and the option or the address. It prints a line for each class that comes up: how many words, the first of them, the class, that
-// word's line here and their text. It fails if a difference has no class.
+// Compares the lines of the words that have VALUE in the bits outside ANY, all with flow next or refused, with what a disassembler, WHO,
+// reads: the name and the operands. It prints a line for each class that comes up: how many words, the first of them, the class, that word's
+// line here and their text. It fails if a difference has no class.
 #include "../disassembler.h"
 #include "brassdozen.h"
 #include <cstdio>
@@ -13,10 +13,10 @@ namespace {
 
 using std::string;
 
-// a name and an operand, as the listing spells them; no name is no instruction
+// a name and operands, as the listing spells them; no name is no instruction
 struct Reading {
     string name;
-    string operand;
+    string operands;
 };
 
 // the text, without the blanks around it
@@ -50,20 +50,29 @@ Reading ours(const string &line) {
     return flow == string::npos ? Reading{} : split(line.substr(0, flow));
 }
 
+string coreRegister(const string &r) {
+    static const std::unordered_map<string, string> others = {{"sl", "r10"}, {"fp", "r11"}, {"ip", "r12"}};
+    const auto other = others.find(r);
+    return other == others.end() ? r : other->second;
+}
+
 // "[r1, #-16]" as "[r1:-:-16:o:1]"
 string address(const string &a) {
-    static const std::unordered_map<string, string> registers = {{"sl", "r10"}, {"fp", "r11"}, {"ip", "r12"}};
     const string in = a.substr(1, a.find(']') - 1);
     const size_t offset = in.find(", #");
-    const string base = in.substr(0, offset);
-    const auto r = registers.find(base);
-    return "[" + (r == registers.end() ? base : r->second) + ":-:" + (offset == string::npos ? "0" : in.substr(offset + 3)) + ":o:1]";
+    return "[" + coreRegister(in.substr(0, offset)) + ":-:" + (offset == string::npos ? "0" : in.substr(offset + 3)) + ":o:1]";
+}
+
+// "r1, fp, r3" as "r1 r11 r3"
+string operands(const string &o) {
+    if (o[0] == '[') return address(o);
+    const size_t end = o.find(", ");
+    return end == string::npos ? coreRegister(o) : coreRegister(o.substr(0, end)) + " " + operands(o.substr(end + 2));
 }
 
 Reading theirs(const string &text) {
-    Reading r = split(text.substr(0, text.find_first_of("@;")));
-    if (r.operand[0] == '[') r.operand = address(r.operand);
-    return r;
+    const Reading r = split(text.substr(0, text.find_first_of("@;")));
+    return {r.name, operands(r.operands)};
 }
 
 // 3:0 of a barrier, by the name of its option or as a number; -1 if it is neither
@@ -88,15 +97,21 @@ string signedZero(const string &address, uint32_t w) {
     return zero == string::npos || w >> 23 & 1 ? address : address.substr(0, zero) + ":-0:" + address.substr(zero + 3);
 }
 
+bool isProduct(const string &name) { return name.compare(0, 4, "smul") == 0; }
+
+// whether a bit of the word is not as its page draws it in parentheses
+bool strayBits(uint32_t w, const string &name) { return (name == "clrex" && (w & 15) != 15) || (isProduct(name) && (w >> 12 & 15) != 0); }
+
 // "?" if there is none
 string classOf(uint32_t w, const Reading &here, const Reading &there, bool marked) {
     if (here.name.empty() && there.name.empty()) return "both have no instruction";
-    if (here.name == there.name && here.operand == there.operand) return marked ? "agree, and they mark it as unpredictable" : "agree";
-    if (here.name == there.name && isBarrier(here.name) && option(here.operand) == int(w & 15) && option(there.operand) == int(w & 15))
+    if (here.name == there.name && here.operands == there.operands) return marked ? "agree, and they mark it as unpredictable" : "agree";
+    if (here.name == there.name && isBarrier(here.name) && option(here.operands) == int(w & 15) && option(there.operands) == int(w & 15))
         return "the same option, spelled otherwise";
-    if (here.name == there.name && signedZero(here.operand, w) == there.operand) return "minus zero, which they tell from zero";
+    if (here.name == there.name && signedZero(here.operands, w) == there.operands) return "minus zero, which they tell from zero";
     if (later(there.name)) return "ARMv8 and later: " + there.name;
-    if (here.name == "clrex" && there.name.empty() && (w & 15) != 15) return "should-be bits: they have no instruction";
+    if (strayBits(w, here.name) && there.name.empty()) return "should-be bits: they have no instruction";
+    if (strayBits(w, here.name) && here.name != there.name) return "should-be bits: they name another instruction";
     return "?";
 }
 
@@ -110,18 +125,21 @@ struct Count {
 
 int main(int argc, char **argv) {
     if (argc != 4) {
-        fprintf(stderr, "usage: lines WHO FIRST COUNT\n");
+        fprintf(stderr, "usage: lines WHO VALUE ANY\n");
         return 2;
     }
     auto disassembler = argv[1] == string("binutils") ? binutils() : llvm14();
-    const uint64_t first = strtoull(argv[2], nullptr, 16), count = strtoull(argv[3], nullptr, 16);
+    const uint32_t value = strtoul(argv[2], nullptr, 16), any = strtoul(argv[3], nullptr, 16);
     std::map<string, Count> classes;
-    for (uint64_t i = 0; i < count; i++) {
-        const uint32_t w = first + i;
+    uint32_t bits = 0;
+    do {
+        const uint32_t w = value | bits;
         const string here = line(w), there = disassembler->text(w);
         Count &c = classes[classOf(w, ours(here), theirs(there), disassembler->marked())];
         if (!c.words++) c = {1, w, here, oneLine(there)};
-    }
+        // the next larger number of bits in `any` alone, and 0 after the last
+        bits = (bits - any) & any;
+    } while (bits != 0);
     unsigned long all = 0;
     for (const auto &[name, c] : classes) {
         printf("%11lu  %08x  %s; %s | %s\n", c.words, c.first, name.c_str(), c.here.c_str(), c.there.c_str());

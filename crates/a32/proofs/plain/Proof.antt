@@ -14,8 +14,8 @@ is-control-requires c κs = search needs
 misc-requires : tie.Need-misc-requires
 misc-requires c κs = search needs
 
-refuse-requires : tie.Need-refuse-requires
-refuse-requires c κs = search needs
+halfword-requires : tie.Need-halfword-requires
+halfword-requires c κs = search needs
 
 dp-reg-requires : tie.Need-dp-reg-requires
 dp-reg-requires c κs = search needs
@@ -35,7 +35,7 @@ returns-2 : tie.Need-returns-2
 unfolding plainOf
 returns-2 c =
     simp (
-      c .refuse .ensures,
+      c .halfword .ensures,
       ne-eqb _ _ (c .before .if2 .left),
       c .before .before .if1 .taken,
       ← (c .before .before .before .is-control .ensures),
@@ -59,7 +59,7 @@ plain-spec =
     bit-requires
     is-control-requires
     misc-requires
-    refuse-requires
+    halfword-requires
     dp-reg-requires
     returns
     returns-2

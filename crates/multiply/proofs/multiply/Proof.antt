@@ -13,14 +13,14 @@ bit-requires c κs = search needs
 by-s-requires : tie.Need-by-s-requires
 by-s-requires c κs = search needs
 
-three-requires : tie.Need-three-requires
-three-requires c κs = search needs
+product-requires : tie.Need-product-requires
+product-requires c κs = search needs
 
 by-s-requires-2 : tie.Need-by-s-requires-2
 by-s-requires-2 c κs = search needs
 
-four-requires : tie.Need-four-requires
-four-requires c κs = search needs
+adding-requires : tie.Need-adding-requires
+adding-requires c κs = search needs
 
 long-requires : tie.Need-long-requires
 long-requires c κs = search needs
@@ -28,8 +28,8 @@ long-requires c κs = search needs
 refuse-requires : tie.Need-refuse-requires
 refuse-requires c κs = search needs
 
-four-requires-2 : tie.Need-four-requires-2
-four-requires-2 c κs = search needs
+adding-requires-2 : tie.Need-adding-requires-2
+adding-requires-2 c κs = search needs
 
 refuse-requires-2 : tie.Need-refuse-requires-2
 refuse-requires-2 c κs = search needs
@@ -64,7 +64,7 @@ refuse-requires-3 c κs = search needs
 returns : tie.Need-returns
 returns c =
     simp (
-      c .three .ensures,
+      c .product .ensures,
       c .before .by-s .ensures,
       c .before .before .match .keys1,
       ← (c .before .before .before .bit .ensures),
@@ -74,7 +74,7 @@ returns c =
 returns-2 : tie.Need-returns-2
 returns-2 c =
     simp (
-      c .four .ensures,
+      c .adding .ensures,
       c .before .by-s2 .ensures,
       c .before .before .match .keys2,
       ← (c .before .before .before .bit .ensures),
@@ -104,7 +104,7 @@ returns-4 c =
 returns-5 : tie.Need-returns-5
 returns-5 c =
     simp (
-      c .four2 .ensures,
+      c .adding2 .ensures,
       c .before .if2 .taken,
       c .before .before .match .keys4,
       ← (c .before .before .before .bit .ensures),
@@ -184,12 +184,12 @@ multiply-spec =
     bits-requires
     bit-requires
     by-s-requires
-    three-requires
+    product-requires
     by-s-requires-2
-    four-requires
+    adding-requires
     long-requires
     refuse-requires
-    four-requires-2
+    adding-requires-2
     refuse-requires-2
     by-s-requires-3
     long-requires-2

@@ -115,9 +115,21 @@ returns-34 : tie.Need-returns-34
 returns-34 c = of-row 33 (c .before .args .name) tt (c .match .keys34)
 
 returns-35 : tie.Need-returns-35
-returns-35 c =
+returns-35 c = of-row 34 (c .before .args .name) tt (c .match .keys35)
+
+returns-36 : tie.Need-returns-36
+returns-36 c = of-row 35 (c .before .args .name) tt (c .match .keys36)
+
+returns-37 : tie.Need-returns-37
+returns-37 c = of-row 36 (c .before .args .name) tt (c .match .keys37)
+
+returns-38 : tie.Need-returns-38
+returns-38 c = of-row 37 (c .before .args .name) tt (c .match .keys38)
+
+returns-39 : tie.Need-returns-39
+returns-39 c =
     let name = c .before .args .name in
-    let row : 34 ≤ name / 4 = past 34 (name / 4) (c .match .rest) in
+    let row : 38 ≤ name / 4 = past 38 (name / 4) (c .match .rest) in
     let beyond : NAMES ≤ name = omega (arith, row) in
     spelt 8 (blanks 4) tt (name % 4) ∙ blank [] 4 (name % 4) ∙ sym (ap bytes (List·getD-eq-default roots "" beyond))
 
@@ -159,4 +171,8 @@ roots-with-spec =
     returns-32
     returns-33
     returns-34
-    returns-35)
+    returns-35
+    returns-36
+    returns-37
+    returns-38
+    returns-39)

@@ -3,7 +3,7 @@ use borrow.Author.Needs.{needs}
 use mathlib.Core.Path.{sym, _∙_}
 use native.Mathlib.Nat.{le-refl}
 use native.Mathlib.Omega.{arith}
-use Rattle.home.proofs.Ways.{between, named-address, named-dp, named-status, named-extra, named-wide, named-ldst, named-media, named-block, named-preload, named-barrier}
+use Rattle.home.proofs.Ways.{between, named-address, named-dp, named-status, named-extra, named-wide, named-ldst, named-media, named-block, named-preload, named-barrier, named-halfword}
 use Rattle.dp_words.proofs.Chosen.{by}
 use Rattle.words.proofs.word_of.Statement.{statement}
 use Rattle.words.proofs.word_of.Tie as tie
@@ -69,7 +69,13 @@ barrier-word-requires : tie.Need-barrier-word-requires
 barrier-word-requires c κs = search needs
 
 returns-10 : tie.Need-returns-10
-returns-10 c = by (c .barrier-word .ensures) (named-barrier (c .before .before .before .before .before .before .before .before .before .before .before .args .i) (sym (c .before .before .before .before .before .before .before .before .before .before .is-at .ensures) ∙ c .before .before .before .before .before .before .before .before .before .if1 .left) _ (between 129 _ (c .before .before .before .before .before .before .before .before .before .before .before .args .i .name) (omega arith) (le-refl _)))
+returns-10 c = by (c .barrier-word .ensures) (named-barrier (c .before .before .before .before .before .before .before .before .before .before .before .before .args .i) (sym (c .before .before .before .before .before .before .before .before .before .before .before .is-at .ensures) ∙ c .before .before .before .before .before .before .before .before .before .before .if1 .left) (between 129 132 (c .before .before .before .before .before .before .before .before .before .before .before .before .args .i .name) (omega arith) (omega arith)))
+
+halfword-word-requires : tie.Need-halfword-word-requires
+halfword-word-requires c κs = search needs
+
+returns-11 : tie.Need-returns-11
+returns-11 c = by (c .halfword-word .ensures) (named-halfword (c .before .before .before .before .before .before .before .before .before .before .before .before .args .i) (sym (c .before .before .before .before .before .before .before .before .before .before .before .is-at .ensures) ∙ c .before .before .before .before .before .before .before .before .before .before .if1 .left) _ (between 133 _ (c .before .before .before .before .before .before .before .before .before .before .before .before .args .i .name) (omega arith) (le-refl _)))
 
 pub word-of-spec : {M : Type 1} → statement M
 word-of-spec =
@@ -95,4 +101,6 @@ word-of-spec =
     preload-word-requires
     returns-9
     barrier-word-requires
-    returns-10)
+    returns-10
+    halfword-word-requires
+    returns-11)
