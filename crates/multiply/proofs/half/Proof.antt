@@ -10,7 +10,7 @@ bit-requires : tie.Need-bit-requires
 bit-requires c κs = search needs
 
 one-bit : (c : tie.After-bit) → c .bit .result < 2
-one-bit c = rw (c .bit .ensures) (small _ 6 1)
+one-bit c = rw (c .bit .ensures) (small _ _ 1)
 
 cast-result : tie.Need-cast-result
 cast-result c = omega (arith, one-bit c)

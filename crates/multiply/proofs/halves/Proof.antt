@@ -10,7 +10,7 @@ bit-requires : tie.Need-bit-requires
 bit-requires c κs = search needs
 
 one-bit : (c : tie.After-bit) → c .bit .result < 2
-one-bit c = rw (c .bit .ensures) (small _ 5 1)
+one-bit c = rw (c .bit .ensures) (small _ _ 1)
 
 cast-half : tie.Need-cast-half
 cast-half c = omega (arith, one-bit c)
