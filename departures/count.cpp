@@ -68,7 +68,6 @@ static const std::vector<Departure> departures = {
      {"STR (immediate, ARM)", "LDR (immediate, ARM)", "LDR (literal)", "STRB (immediate, ARM)", "LDRB (immediate, ARM)", "LDRB (literal)"},
      [](uint32_t w) { return offset_mode(w) && !bit(w, 23) && field(w, 0, 12) == 0; }},
     {"empty-list", true, {"STMDA", "LDMDA", "STM", "LDM", "STMDB", "LDMDB", "STMIB", "LDMIB"}, [](uint32_t w) { return field(w, 0, 16) == 0; }},
-    {"saturate-bits", false, {"SSAT", "USAT"}, [](uint32_t w) { return bit(w, 20); }},
     {"width", true, {"BFC", "BFI"}, [](uint32_t w) { return field(w, 16, 5) < field(w, 7, 5); }},
     {"reverse-bits", true, {"REV", "REV16", "RBIT", "REVSH"}, [](uint32_t w) { return !(field(w, 16, 4) == 15 && field(w, 8, 4) == 15); }},
     {"extend-bits", true,

@@ -332,8 +332,7 @@ fn past(bits: u64, random: &mut Random) -> u8 {
 }
 
 /// Past the fields of a count, a number or a displacement, with its sign or without.
-const WIDTHS: [i64; 9] = [
-    1 << 4,
+const WIDTHS: [i64; 8] = [
     1 << 5,
     1 << 8,
     1 << 12,

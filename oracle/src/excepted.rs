@@ -1,13 +1,13 @@
 //! The words that follow the manual and not the Rust (02): the barriers, `clrex` and the preloads,
-//! all under condition 15 with 27:24 = 0101 (P1), and the halfword multiplies, under a condition
-//! below 15 (P3).
+//! all under condition 15 with 27:24 = 0101 (P1), and under a condition below 15 the halfword
+//! multiplies (P3) and the saturates (P4).
 
 use std::collections::BTreeMap;
 use std::fmt::{self, Display, Formatter};
 use std::iter::Sum;
 
 use crate::answer::{Answer, Flow, Instruction, Memory, Mode, Operand, PLACES};
-use crate::names::ROOTS;
+use crate::names::{ASR, LSL, ROOTS};
 use crate::oracle::Oracle;
 use crate::pattern::{Pattern, pattern};
 use crate::words::Block;
@@ -15,7 +15,7 @@ use crate::words::Block;
 /// The words under a condition below 15, or those under condition 15.
 pub struct Space {
     /// The words that follow the manual. One of them that is in no row is refused.
-    corner: Pattern,
+    corners: &'static [Pattern],
     /// The rows of the manual there. No two have a word in common.
     pub rows: &'static [Row],
 }
@@ -33,10 +33,14 @@ pub struct Row {
 /// What an operand is read from.
 type Part = fn(u32) -> Operand;
 
-/// Control with bit 7 set and bit 4 clear. The bits that the manual draws in parentheses are not
-/// asked for.
+/// The bits that the manual draws in parentheses are not asked for.
 static CONDITIONAL: Space = Space {
-    corner: pattern("0001 0..0 .... .... .... 1..0 ...."),
+    corners: &[
+        // control with bit 7 set and bit 4 clear
+        pattern("0001 0..0 .... .... .... 1..0 ...."),
+        // ssat, usat
+        pattern("0110 1.1. .... .... .... ..01 ...."),
+    ],
     rows: &[
         // A8.8.176, A8.8.181
         row("0001 0000 .... .... .... 1..0 ....", "smla", &[5, 6], MLA),
@@ -47,12 +51,15 @@ static CONDITIONAL: Space = Space {
         row("0001 0100 .... .... .... 1..0 ....", "smlal", &[5, 6], LONG),
         // A8.8.188
         row("0001 0110 .... .... .... 1..0 ....", "smul", &[5, 6], MUL),
+        // A8.8.193, A8.8.263
+        row("0110 101. .... .... .... ..01 ....", "ssat", &[], SSAT),
+        row("0110 111. .... .... .... ..01 ....", "usat", &[], USAT),
     ],
 };
 
 /// The bits that the manual draws in parentheses are asked for, but for 3:0 of `clrex`.
 static CONDITION_15: Space = Space {
-    corner: pattern("0101 .... .... .... .... .... ...."),
+    corners: &[pattern("0101 .... .... .... .... .... ....")],
     rows: &[
         // A8.8.32
         row("0101 0111 1111 1111 0000 0001 ....", "clrex", &[], &[]),
@@ -71,6 +78,10 @@ const MUL: &[Part] = &[register::<16>, register::<0>, register::<8>];
 const MLA: &[Part] = &[register::<16>, register::<0>, register::<8>, register::<12>];
 const LONG: &[Part] = &[register::<12>, register::<16>, register::<0>, register::<8>];
 
+/// The operands of the saturates (01, "Media").
+const SSAT: &[Part] = &[register::<12>, count::<1>, register::<0>, shift];
+const USAT: &[Part] = &[register::<12>, count::<0>, register::<0>, shift];
+
 const fn row(
     drawn: &str,
     root: &'static str,
@@ -88,6 +99,24 @@ const fn row(
 /// The register whose number's lowest bit is the word's bit `LOW`.
 fn register<const LOW: u32>(word: u32) -> Operand {
     Operand::Register((word >> LOW & 0xf) as u8)
+}
+
+/// 20:16, and `MORE`.
+fn count<const MORE: i64>(word: u32) -> Operand {
+    Operand::Count(i64::from(word >> 16 & 0x1f) + MORE)
+}
+
+/// By 11:7: `asr` if bit 6 is set, of 32 for 0, else `lsl`, and none for 0.
+fn shift(word: u32) -> Operand {
+    match (word >> 6 & 1, (word >> 7 & 0x1f) as u8) {
+        (0, 0) => Operand::Empty,
+        (0, amount) => Operand::SaturateShift { kind: LSL, amount },
+        (_, 0) => Operand::SaturateShift {
+            kind: ASR,
+            amount: 32,
+        },
+        (_, amount) => Operand::SaturateShift { kind: ASR, amount },
+    }
 }
 
 fn option(word: u32) -> Operand {
@@ -121,7 +150,7 @@ pub fn space(condition: u32) -> &'static Space {
 /// here.
 pub fn answer(word: u32, address: u64) -> Option<Answer> {
     let space = space(word >> 28);
-    if !space.corner.has(word) {
+    if !space.corners.iter().any(|corner| corner.has(word)) {
         return None;
     }
     let row = space.rows.iter().find(|row| row.words.has(word));
@@ -264,8 +293,26 @@ mod tests {
     }
 
     #[test]
+    fn saturates() {
+        check(&[
+            (0xe6bf_0011, "ssat r0 #32 r1 next"),
+            (0xe6af_0011, "ssat r0 #16 r1 next"),
+            (0xe6a0_0011, "ssat r0 #1 r1 next"),
+            (0xe6ff_0011, "usat r0 #31 r1 next"),
+            (0xe6e0_0011, "usat r0 #0 r1 next"),
+            (0xe6bf_0091, "ssat r0 #32 r1 lsl,1 next"),
+            (0xe6b0_0051, "ssat r0 #17 r1 asr,32 next"),
+            (0x06f0_0fd1, "usateq r0 #16 r1 asr,31 next"),
+        ]);
+    }
+
+    #[test]
     fn beside_them() {
         let words = [
+            0xe6bf_0f31, // rev
+            0xe6af_0f31, // ssat16
+            0xe68f_0011, // pkhbt
+            0xf6bf_0011, // condition 15
             0xe111_4382, // tst
             0xe101_4302, // control, bit 7 clear
             0xe101_4392, // swp
@@ -311,5 +358,12 @@ mod tests {
         let forms = ROOTS[ROOTS.len() - 16..].iter();
         let expected = forms.map(|&root| (["refused", root], 1 << 16));
         assert_eq!(exceptions(0xe100_0000, 1 << 24), expected.collect());
+    }
+
+    /// 19:16, 15:12, 11:7, bit 6 and 3:0 are any, and bit 20, which the Rust ignores, is set.
+    #[test]
+    fn how_many_saturates() {
+        let expected = ["ssat", "usat"].map(|root| ([root, root], 1 << 18));
+        assert_eq!(exceptions(0xe600_0000, 1 << 24), expected.into());
     }
 }

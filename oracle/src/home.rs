@@ -1,4 +1,4 @@
-//! The home word of an accepted word, as document 01 has it in "Home words", and 02, P1 and P3.
+//! The home word of an accepted word, as document 01 has it in "Home words", and 02, P1, P3 and P4.
 
 use crate::pattern::{Pattern, pattern};
 
@@ -68,9 +68,6 @@ pub static CONDITIONAL: Space = Space {
         // sdiv, udiv
         row("0111 0001 .... .... .... 0001 ....", &[(15, 12)]),
         row("0111 0011 .... .... .... 0001 ....", &[(15, 12)]),
-        // ssat, usat
-        row("0110 101. .... .... .... ..01 ....", &[(20, 20)]),
-        row("0110 111. .... .... .... ..01 ....", &[(20, 20)]),
     ],
     // load/store (not extra) immediate offset mode, when 11:0 is 0
     upward: pattern("0101 ..0. .... .... 0000 0000 0000"),
@@ -217,8 +214,8 @@ mod tests {
     #[test]
     fn saturates() {
         check(&[
-            (0xe6bf_1fdf, 0xe6af_1fdf), // ssat
-            (0xe6ff_1fdf, 0xe6ef_1fdf), // usat
+            (0xe6bf_1fdf, 0xe6bf_1fdf), // ssat
+            (0xe6ff_1fdf, 0xe6ff_1fdf), // usat
             (0xe6bf_1f31, 0xe6bf_1f31), // rev, beside them
         ]);
     }

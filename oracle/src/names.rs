@@ -48,4 +48,8 @@ pub const REGISTERS: [&str; 16] = [
 
 pub const SHIFTS: [&str; 4] = ["lsl", "lsr", "asr", "ror"];
 
+/// Places in `SHIFTS`.
+pub const LSL: u8 = 0;
+pub const ASR: u8 = 2;
+
 pub const STATUS_SOURCES: [&str; 2] = ["apsr", "spsr"];

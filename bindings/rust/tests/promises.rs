@@ -319,6 +319,22 @@ fn damaged_rows_are_refused_or_have_a_word() {
 }
 
 /// Beyond a row's end there are zeros, and nothing after the 49th number is read.
+/// `ssat` is to 1 to 32 bits and `usat` to 0 to 31, by 20:16.
+#[test]
+fn saturates_have_as_many_bits_as_their_field_can_say() {
+    const COUNT: usize = 5 + 11 + 5; // of the second operand
+    for (word, least) in [(0xe6a0_0011, 1), (0xe6e0_0011, 0)] {
+        let mut row = decoded(word, 0x8000).expect("a saturate");
+        assert_eq!(row[COUNT], least);
+        for bits in 0..100 {
+            row[COUNT] = bits;
+            let field = bits.checked_sub(least).filter(|&field| field < 32);
+            let expected = field.map(|field| word | (field as u32) << 16);
+            assert_eq!(encode(&row), expected.ok_or(Refusal::NO_WORD), "{bits}");
+        }
+    }
+}
+
 #[test]
 fn rows_of_every_length_encode() {
     let mut random = Random(6);

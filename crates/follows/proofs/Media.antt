@@ -1,27 +1,17 @@
 -- Media instructions beside the manual. Assumes nothing.
 use mathlib.Core.Path.{_≡_, refl}
 use mathlib.Core.Bool.{true, false}
-use Prim.Native.Nat.{ℕ, _+_}
-use native.Mathlib.Nat.{zero-add}
-use native.Mathlib.Omega.{arith}
-use borrow.Author.Tests.{eqb-true, ne-eqb}
+use Prim.Native.Nat.{ℕ}
+use borrow.Author.Tests.{eqb-true}
 use lib.Dec.{eqb, ltb}
 use Rattle.word.specs.Field.{field}
 use Rattle.a32.specs.Decode.{decodeOf, groupOf}
 use Rattle.manual.specs.A5 as A
 use Rattle.manual.specs.A8.{saidOf, pageOf}
 use Rattle.manual.specs.Departures.{standingOf}
-use Rattle.manual.proofs.Fields.{HeldAt, holds, held-pick, ops, highs, high-bits, groups, bits, wide-16-5, by-field, split, apart, conditions, refuses, _also_}
-use Rattle.manual.proofs.Forms.{countAt}
+use Rattle.manual.proofs.Fields.{HeldAt, holds, held-pick, ops, highs, high-bits, groups, bits, by-field, split, conditions, refuses, _also_}
 use Rattle.manual.proofs.Pages.{named, undefined-held}
 use Rattle.manual.proofs.Shifts.{saturate-is}
-
--- a fifth bit makes another number
-far : (x : ℕ) → eqb x (16 + x) ≡ false
-far x = ne-eqb x (16 + x) (λ (h : x ≡ 16 + x). omega (arith, h))
-
-far-1 : (x : ℕ) → eqb (x + 1) (16 + x + 1) ≡ false
-far-1 x = ne-eqb (x + 1) (16 + x + 1) (λ (h : x + 1 ≡ 16 + x + 1). omega (arith, h))
 
 module _ (w addr : ℕ) (cond : eqb (field w 28 4) 15 ≡ false) (group : field w 25 3 ≡ 3) (low : field w 4 1 ≡ 1) where
   extend-8 : field w 20 5 ≡ 8 → HeldAt w addr
@@ -68,9 +58,9 @@ module _ (w addr : ℕ) (cond : eqb (field w 28 4) 15 ≡ false) (group : field 
   unfolding decodeOf groupOf saidOf pageOf standingOf A.tableRow A.media A.packing
   saturate-10 e =
       by-field w 5 3
-      ((λ u. simp (ops, highs, groups, cond, group, low, e, u) (holds (simp (bits, ops, highs, saturate-is, wide-16-5, zero-add, e, u)))) also
+      ((λ u. simp (ops, highs, groups, cond, group, low, e, u) (holds (simp (highs, saturate-is, u)))) also
       (λ u. simp (ops, highs, groups, cond, group, low, e, u) (named w addr _ refl refl refl)) also
-      (λ u. simp (ops, highs, groups, cond, group, low, e, u) (holds (simp (bits, ops, highs, saturate-is, wide-16-5, zero-add, e, u)))) also
+      (λ u. simp (ops, highs, groups, cond, group, low, e, u) (holds (simp (highs, saturate-is, u)))) also
       (λ u. split (eqb (field w 8 2) 0)
       (λ k. split (eqb (field w 16 4) 15)
       (λ r. simp (ops, highs, groups, cond, group, low, e, u, k, r) (holds (simp (bits, u, k, r))))
@@ -78,9 +68,9 @@ module _ (w addr : ℕ) (cond : eqb (field w 28 4) 15 ≡ false) (group : field 
       (λ k. split (eqb (field w 16 4) 15)
       (λ r. simp (ops, highs, groups, cond, group, low, e, u, k, r) (holds (simp (bits, u, k, r) (refl, refuses))))
       (λ r. simp (ops, highs, groups, cond, group, low, e, u, k, r) (holds (simp (bits, u, k, r) (refl, refuses)))))) also
-      (λ u. simp (ops, highs, groups, cond, group, low, e, u) (holds (simp (bits, ops, highs, saturate-is, wide-16-5, zero-add, e, u)))) also
+      (λ u. simp (ops, highs, groups, cond, group, low, e, u) (holds (simp (highs, saturate-is, u)))) also
       (λ u. simp (ops, highs, groups, cond, group, low, e, u) (undefined-held w addr)) also
-      (λ u. simp (ops, highs, groups, cond, group, low, e, u) (holds (simp (bits, ops, highs, saturate-is, wide-16-5, zero-add, e, u)))) also
+      (λ u. simp (ops, highs, groups, cond, group, low, e, u) (holds (simp (highs, saturate-is, u)))) also
       (λ u. simp (ops, highs, groups, cond, group, low, e, u) (undefined-held w addr)) also
       tt)
 
@@ -88,13 +78,13 @@ module _ (w addr : ℕ) (cond : eqb (field w 28 4) 15 ≡ false) (group : field 
   unfolding decodeOf groupOf saidOf pageOf standingOf A.tableRow A.media A.packing
   saturate-11 e =
       by-field w 5 3
-      ((λ u. simp (ops, highs, groups, cond, group, low, e, u) (holds (simp (bits, ops, highs, saturate-is, wide-16-5, zero-add, e, u) (refl, apart (countAt 1) _ _ (far-1 (field w 16 4)))))) also
+      ((λ u. simp (ops, highs, groups, cond, group, low, e, u) (holds (simp (highs, saturate-is, u)))) also
       (λ u. split (eqb (field w 16 4) 15)
       (λ r. split (eqb (field w 8 4) 15)
       (λ k. simp (ops, highs, groups, cond, group, low, e, u, r, k) (holds (simp (bits, u, r, k))))
       (λ k. simp (ops, highs, groups, cond, group, low, e, u, r, k) (holds (simp (bits, u, r, k) (refl, refuses)))))
       (λ r. simp (ops, highs, groups, cond, group, low, e, u, r) (holds (simp (bits, u, r) (refl, refuses))))) also
-      (λ u. simp (ops, highs, groups, cond, group, low, e, u) (holds (simp (bits, ops, highs, saturate-is, wide-16-5, zero-add, e, u) (refl, apart (countAt 1) _ _ (far-1 (field w 16 4)))))) also
+      (λ u. simp (ops, highs, groups, cond, group, low, e, u) (holds (simp (highs, saturate-is, u)))) also
       (λ u. split (eqb (field w 8 2) 0)
       (λ k. split (eqb (field w 16 4) 15)
       (λ r. simp (ops, highs, groups, cond, group, low, e, u, k, r) (holds (simp (bits, u, k, r))))
@@ -102,13 +92,13 @@ module _ (w addr : ℕ) (cond : eqb (field w 28 4) 15 ≡ false) (group : field 
       (λ k. split (eqb (field w 16 4) 15)
       (λ r. simp (ops, highs, groups, cond, group, low, e, u, k, r) (holds (simp (bits, u, k, r) (refl, refuses))))
       (λ r. simp (ops, highs, groups, cond, group, low, e, u, k, r) (holds (simp (bits, u, k, r) (refl, refuses)))))) also
-      (λ u. simp (ops, highs, groups, cond, group, low, e, u) (holds (simp (bits, ops, highs, saturate-is, wide-16-5, zero-add, e, u) (refl, apart (countAt 1) _ _ (far-1 (field w 16 4)))))) also
+      (λ u. simp (ops, highs, groups, cond, group, low, e, u) (holds (simp (highs, saturate-is, u)))) also
       (λ u. split (eqb (field w 16 4) 15)
       (λ r. split (eqb (field w 8 4) 15)
       (λ k. simp (ops, highs, groups, cond, group, low, e, u, r, k) (holds (simp (bits, u, r, k))))
       (λ k. simp (ops, highs, groups, cond, group, low, e, u, r, k) (holds (simp (bits, u, r, k) (refl, refuses)))))
       (λ r. simp (ops, highs, groups, cond, group, low, e, u, r) (holds (simp (bits, u, r) (refl, refuses))))) also
-      (λ u. simp (ops, highs, groups, cond, group, low, e, u) (holds (simp (bits, ops, highs, saturate-is, wide-16-5, zero-add, e, u) (refl, apart (countAt 1) _ _ (far-1 (field w 16 4)))))) also
+      (λ u. simp (ops, highs, groups, cond, group, low, e, u) (holds (simp (highs, saturate-is, u)))) also
       (λ u. simp (ops, highs, groups, cond, group, low, e, u) (undefined-held w addr)) also
       tt)
 
@@ -116,9 +106,9 @@ module _ (w addr : ℕ) (cond : eqb (field w 28 4) 15 ≡ false) (group : field 
   unfolding decodeOf groupOf saidOf pageOf standingOf A.tableRow A.media A.packing
   saturate-14 e =
       by-field w 5 3
-      ((λ u. simp (ops, highs, groups, cond, group, low, e, u) (holds (simp (bits, ops, highs, saturate-is, wide-16-5, zero-add, e, u)))) also
+      ((λ u. simp (ops, highs, groups, cond, group, low, e, u) (holds (simp (highs, saturate-is, u)))) also
       (λ u. simp (ops, highs, groups, cond, group, low, e, u) (named w addr _ refl refl refl)) also
-      (λ u. simp (ops, highs, groups, cond, group, low, e, u) (holds (simp (bits, ops, highs, saturate-is, wide-16-5, zero-add, e, u)))) also
+      (λ u. simp (ops, highs, groups, cond, group, low, e, u) (holds (simp (highs, saturate-is, u)))) also
       (λ u. split (eqb (field w 8 2) 0)
       (λ k. split (eqb (field w 16 4) 15)
       (λ r. simp (ops, highs, groups, cond, group, low, e, u, k, r) (holds (simp (bits, u, k, r))))
@@ -126,9 +116,9 @@ module _ (w addr : ℕ) (cond : eqb (field w 28 4) 15 ≡ false) (group : field 
       (λ k. split (eqb (field w 16 4) 15)
       (λ r. simp (ops, highs, groups, cond, group, low, e, u, k, r) (holds (simp (bits, u, k, r) (refl, refuses))))
       (λ r. simp (ops, highs, groups, cond, group, low, e, u, k, r) (holds (simp (bits, u, k, r) (refl, refuses)))))) also
-      (λ u. simp (ops, highs, groups, cond, group, low, e, u) (holds (simp (bits, ops, highs, saturate-is, wide-16-5, zero-add, e, u)))) also
+      (λ u. simp (ops, highs, groups, cond, group, low, e, u) (holds (simp (highs, saturate-is, u)))) also
       (λ u. simp (ops, highs, groups, cond, group, low, e, u) (undefined-held w addr)) also
-      (λ u. simp (ops, highs, groups, cond, group, low, e, u) (holds (simp (bits, ops, highs, saturate-is, wide-16-5, zero-add, e, u)))) also
+      (λ u. simp (ops, highs, groups, cond, group, low, e, u) (holds (simp (highs, saturate-is, u)))) also
       (λ u. simp (ops, highs, groups, cond, group, low, e, u) (undefined-held w addr)) also
       tt)
 
@@ -136,13 +126,13 @@ module _ (w addr : ℕ) (cond : eqb (field w 28 4) 15 ≡ false) (group : field 
   unfolding decodeOf groupOf saidOf pageOf standingOf A.tableRow A.media A.packing
   saturate-15 e =
       by-field w 5 3
-      ((λ u. simp (ops, highs, groups, cond, group, low, e, u) (holds (simp (bits, ops, highs, saturate-is, wide-16-5, zero-add, e, u) (refl, apart (countAt 1) _ _ (far (field w 16 4)))))) also
+      ((λ u. simp (ops, highs, groups, cond, group, low, e, u) (holds (simp (highs, saturate-is, u)))) also
       (λ u. split (eqb (field w 16 4) 15)
       (λ r. split (eqb (field w 8 4) 15)
       (λ k. simp (ops, highs, groups, cond, group, low, e, u, r, k) (holds (simp (bits, u, r, k))))
       (λ k. simp (ops, highs, groups, cond, group, low, e, u, r, k) (holds (simp (bits, u, r, k) (refl, refuses)))))
       (λ r. simp (ops, highs, groups, cond, group, low, e, u, r) (holds (simp (bits, u, r) (refl, refuses))))) also
-      (λ u. simp (ops, highs, groups, cond, group, low, e, u) (holds (simp (bits, ops, highs, saturate-is, wide-16-5, zero-add, e, u) (refl, apart (countAt 1) _ _ (far (field w 16 4)))))) also
+      (λ u. simp (ops, highs, groups, cond, group, low, e, u) (holds (simp (highs, saturate-is, u)))) also
       (λ u. split (eqb (field w 8 2) 0)
       (λ k. split (eqb (field w 16 4) 15)
       (λ r. simp (ops, highs, groups, cond, group, low, e, u, k, r) (holds (simp (bits, u, k, r))))
@@ -150,13 +140,13 @@ module _ (w addr : ℕ) (cond : eqb (field w 28 4) 15 ≡ false) (group : field 
       (λ k. split (eqb (field w 16 4) 15)
       (λ r. simp (ops, highs, groups, cond, group, low, e, u, k, r) (holds (simp (bits, u, k, r) (refl, refuses))))
       (λ r. simp (ops, highs, groups, cond, group, low, e, u, k, r) (holds (simp (bits, u, k, r) (refl, refuses)))))) also
-      (λ u. simp (ops, highs, groups, cond, group, low, e, u) (holds (simp (bits, ops, highs, saturate-is, wide-16-5, zero-add, e, u) (refl, apart (countAt 1) _ _ (far (field w 16 4)))))) also
+      (λ u. simp (ops, highs, groups, cond, group, low, e, u) (holds (simp (highs, saturate-is, u)))) also
       (λ u. split (eqb (field w 16 4) 15)
       (λ r. split (eqb (field w 8 4) 15)
       (λ k. simp (ops, highs, groups, cond, group, low, e, u, r, k) (holds (simp (bits, u, r, k))))
       (λ k. simp (ops, highs, groups, cond, group, low, e, u, r, k) (holds (simp (bits, u, r, k) (refl, refuses)))))
       (λ r. simp (ops, highs, groups, cond, group, low, e, u, r) (holds (simp (bits, u, r) (refl, refuses))))) also
-      (λ u. simp (ops, highs, groups, cond, group, low, e, u) (holds (simp (bits, ops, highs, saturate-is, wide-16-5, zero-add, e, u) (refl, apart (countAt 1) _ _ (far (field w 16 4)))))) also
+      (λ u. simp (ops, highs, groups, cond, group, low, e, u) (holds (simp (highs, saturate-is, u)))) also
       (λ u. simp (ops, highs, groups, cond, group, low, e, u) (undefined-held w addr)) also
       tt)
 

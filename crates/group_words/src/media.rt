@@ -133,8 +133,8 @@ fn add_extend_word(op: u64, i: Insn) -> u32
     extend_laid(i, op, register_at(i, 2), amount_at(i, 3), register_at(i, 1))
 }
 
-/// rm 5:4 asr amount rd number 0 24:21 011 cond, from bit 0 up.
-const SATURATE: [u64; 10] = [4, 2, 1, 5, 4, 4, 1, 4, 3, 4];
+/// rm 5:4 asr amount rd number 24:21 011 cond, from bit 0 up.
+const SATURATE: [u64; 9] = [4, 2, 1, 5, 4, 5, 4, 3, 4];
 
 /// Asr by 32 is written 0.
 fn sat_laid(op: u64, n: u64, i: Insn) -> u32
@@ -149,7 +149,6 @@ fn sat_laid(op: u64, n: u64, i: Insn) -> u32
             amount_at(i, 3) % 32,
             register_at(i, 0),
             n,
-            0,
             op,
             3,
             cond(i),

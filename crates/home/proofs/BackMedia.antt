@@ -1,6 +1,6 @@
 -- Media: clearing what a row ignores changes no answer, and an answer leads back to its home word. Assumes nothing.
-use mathlib.Core.Path.{_≡_, refl, sym, _∙_}
-use mathlib.Core.Bool.{Bool, true, false}
+use mathlib.Core.Path.{_≡_, refl, _∙_}
+use mathlib.Core.Bool.{true, false}
 use mathlib.Core.List.{[], _∷_}
 use Prim.Native.Nat.{ℕ, _+_, _-_, _*_, _/_, _%_, _^_, _<_}
 use native.Mathlib.Nat.{add-sub-cancel}
@@ -14,10 +14,10 @@ use Rattle.word.specs.Layout.{join, whole}
 use Rattle.insn.specs.Name.{SBFX, UBFX, SDIV, UDIV, SSAT, USAT, REV, REV16, RBIT, REVSH, SXTB16, SXTAB16, SXTB, SXTAB, SXTH, SXTAH, UXTB16, UXTAB16, UXTB, UXTAB, UXTH, UXTAH}
 use Rattle.insn.specs.declared.Decoded.{Decoded}
 use Rattle.insn.specs.declared.Insn.{Insn}
-use Rattle.media.specs.Media.{mediaOf, udfOf, bfxOf, bfOf, divOf, satOf, ssatOf, usatOf, satShiftOf, revOf, rotateOf, extendOf, revOrExtendOf}
+use Rattle.media.specs.Media.{mediaOf, udfOf, bfxOf, bfOf, divOf, satOf, satOr, satShiftOf, revOf, rotateOf, extendOf, revOrExtendOf}
 use Rattle.parts.specs.Operands.{operandFlat}
 use Rattle.parts.specs.Parts.{at, number}
-use Rattle.home.specs.Table.{ignored, ALL-READ, DIVIDES, SATURATES}
+use Rattle.home.specs.Table.{ignored, ALL-READ, DIVIDES}
 use Rattle.home.specs.Home.{clearAll, mediaRow}
 use Rattle.home.specs.WordMedia.{udfLayout, bitsLayout, layout, satLayout, satLaid, bfxWord, divWord, revWord, extendWord, addExtendWord, laidAs, mediaWord}
 use Rattle.home.proofs.Leads.{apart, Leads, bit-cases, two-cases, refusal}
@@ -52,29 +52,24 @@ last-bit m l e = omega (arith, ltb-false m l e)
 abbrev Laid : ℕ → (Insn → ℕ) → Type 0
 Laid name word = ((i : Insn) → laidAs name i ≡ word i) × (inside 90 114 name ≡ true)
 
--- the row of 24:20, where 5:4 = 01 and elsewhere
-abbrev rowAt : ℕ → Bool → ℕ
-rowAt op low =
-    pick (eqb op 17) DIVIDES
-    (pick (eqb op 19) DIVIDES
-    (pick low
-    (pick (eqb (op / 2) 5) SATURATES (pick (eqb (op / 2) 7) SATURATES ALL-READ))
-    ALL-READ))
+-- the row of 24:20
+abbrev rowAt : ℕ → ℕ
+rowAt op = pick (eqb op 17) DIVIDES (pick (eqb op 19) DIVIDES ALL-READ)
 
-row-is : (w op : ℕ) → field w 20 5 ≡ op → (b : Bool) → eqb (field w 4 2) 1 ≡ b → mediaRow w ≡ rowAt op b
+row-is : (w op : ℕ) → field w 20 5 ≡ op → mediaRow w ≡ rowAt op
 unfolding mediaRow
-row-is w op is-op b low = simp (is-op, upper w op is-op, low)
+row-is w op is-op = simp is-op
 
--- a saturate's name, its 24:21, and the number that it writes for 19:16
+-- a saturate's name, its 24:21, and the number that it writes for 20:16
 abbrev Saturates : ℕ → ℕ → ℕ → ℕ → Type 0
 Saturates w name op amount =
-    ((i : Insn) → number (at i 1) ≡ amount → laidAs name i ≡ satLaid op (field w 16 4) i) × (inside 90 114 name ≡ true)
+    ((i : Insn) → number (at i 1) ≡ amount → laidAs name i ≡ satLaid op (field w 16 5) i) × (inside 90 114 name ≡ true)
 
-ssat : (w : ℕ) → Saturates w SSAT 5 (field w 16 4 + 1)
+ssat : (w : ℕ) → Saturates w SSAT 5 (field w 16 5 + 1)
 unfolding laidAs
 ssat w = (λ i n. simp (n, add-sub-cancel), refl)
 
-usat : (w : ℕ) → Saturates w USAT 7 (field w 16 4)
+usat : (w : ℕ) → Saturates w USAT 7 (field w 16 5)
 unfolding laidAs
 usat w = (λ i n. simp n, refl)
 
@@ -121,14 +116,18 @@ module _ (w addr : ℕ) (bound : w < 2 ^ 32) (group : field w 25 3 ≡ 3) (four 
       div-home : field w 5 3 ≡ 0 → join layout (field w 0 4 ∷ 1 ∷ 0 ∷ field w 8 4 ∷ 0 ∷ field w 16 4 ∷ op ∷ 3 ∷ field w 28 4 ∷ []) ≡ clear w 12 4
       div-home low = simp (apart, group, four, low, is-op) at (whole layout (clear w 12 4) (clear-small w 12 4 bound))
 
-  -- the saturates ignore bit 20
-  sat-leads : (name op amount : ℕ) → Saturates w name (op / 2) amount → field w 20 5 ≡ op → field w 4 2 ≡ 1
-      → Leads mediaWord 90 114 (clear w 20 1) (satOf w addr name amount)
-  sat-leads name op amount (laid, named) is-op low ok =
-      (laid ((satOf w addr name amount) .insn) refl ∙ simp (shift-kind, shift-amount) sat-home, named, refl)
+  -- a saturate "with 5:4 = 01", or another row
+  sat-or : (name op amount : ℕ) (other : Decoded) → Saturates w name op amount → field w 21 4 ≡ op → Leads mediaWord 90 114 w other
+      → Leads mediaWord 90 114 w (satOr w (satOf w addr name amount) other)
+  sat-or name op amount other (laid, named) is-op leads =
+      by-test (eqb (field w 4 2) 1)
+      (λ low. simp low (λ ok.
+      (laid ((satOf w addr name amount) .insn) refl ∙ simp (shift-kind, shift-amount) (sat-word (eqb-true _ 1 low)), named, refl)))
+      (λ low. simp low leads)
     where
-      sat-home : join satLayout (field w 0 4 ∷ 1 ∷ field w 6 1 ∷ field w 7 5 ∷ field w 12 4 ∷ field w 16 4 ∷ 0 ∷ op / 2 ∷ 3 ∷ field w 28 4 ∷ []) ≡ clear w 20 1
-      sat-home = simp (apart, group, low, upper w op is-op) at (whole satLayout (clear w 20 1) (clear-small w 20 1 bound))
+      sat-word : field w 4 2 ≡ 1
+          → join satLayout (field w 0 4 ∷ 1 ∷ field w 6 1 ∷ field w 7 5 ∷ field w 12 4 ∷ field w 16 5 ∷ op ∷ 3 ∷ field w 28 4 ∷ []) ≡ w
+      sat-word low = simp (group, low, is-op) at (whole satLayout w bound)
 
   -- "With Rn and 11:8 both 15"
   rev-leads : (name op low : ℕ) → Laid name (revWord op low) → field w 20 5 ≡ op → field w 5 3 ≡ low → Leads mediaWord 90 114 w (revOf w addr name)
@@ -185,86 +184,43 @@ module _ (w addr : ℕ) (bound : w < 2 ^ 32) (group : field w 25 3 ≡ 3) (four 
   abbrev Back : ℕ → Type 0
   Back row = Leads mediaWord 90 114 (clearAll (ignored row) w) (mediaOf w addr)
 
-  -- a value of 24:20 is in two rows of the table, by 5:4, or in one
-  by-low : (op : ℕ) → (field w 20 5 ≡ op → field w 4 2 ≡ 1 → Back (rowAt op true))
-      → (field w 20 5 ≡ op → eqb (field w 4 2) 1 ≡ false → Back (rowAt op false)) → eqb (field w 20 5) op ≡ true → Back (mediaRow w)
-  by-low op at-01 elsewhere e =
-      let is-op : field w 20 5 ≡ op = eqb-true _ op e in
-      by-test (eqb (field w 4 2) 1)
-      (λ low. rw (row-is w op is-op true low) (at-01 is-op (eqb-true _ 1 low)))
-      (λ low. rw (row-is w op is-op false low) (elsewhere is-op low))
-
-  either-way : (op row : ℕ) → rowAt op true ≡ row → rowAt op false ≡ row → (field w 20 5 ≡ op → Back row) → eqb (field w 20 5) op ≡ true → Back (mediaRow w)
-  either-way op row at-01 elsewhere leads = by-low op (λ is-op low. rw at-01 (leads is-op)) (λ is-op low. rw elsewhere (leads is-op))
+  by-op : (op : ℕ) → (field w 20 5 ≡ op → Back (rowAt op)) → eqb (field w 20 5) op ≡ true → Back (mediaRow w)
+  by-op op leads e = let is-op : field w 20 5 ≡ op = eqb-true _ op e in rw (row-is w op is-op) (leads is-op)
 
   pub media-leads : Leads mediaWord 90 114 (clearAll (ignored (mediaRow w)) w) (mediaOf w addr)
   unfolding laidAs
   media-leads =
-      by-test (eqb (field w 20 5) 31) (either-way 31 ALL-READ refl refl (λ op. simp op (udf-or-bfx op))) λ n31.
-      by-test (eqb (field w 20 5) 26) (either-way 26 ALL-READ refl refl (λ op. simp op (bfx-leads SBFX 26 (λ i. refl, refl) op))) λ n26.
-      by-test (eqb (field w 20 5) 27) (either-way 27 ALL-READ refl refl (λ op. simp op (bfx-leads SBFX 27 (λ i. refl, refl) op))) λ n27.
-      by-test (eqb (field w 20 5) 30) (either-way 30 ALL-READ refl refl (λ op. simp op (bfx-leads UBFX 30 (λ i. refl, refl) op))) λ n30.
-      by-test (eqb (field w 20 5) 28) (either-way 28 ALL-READ refl refl (λ op. simp op (bf-leads (upper w 28 op)))) λ n28.
-      by-test (eqb (field w 20 5) 29) (either-way 29 ALL-READ refl refl (λ op. simp op (bf-leads (upper w 29 op)))) λ n29.
-      by-test (eqb (field w 20 5) 17) (either-way 17 DIVIDES refl refl (λ op. simp op (div-leads SDIV 17 (λ i. refl, refl) op))) λ n17.
-      by-test (eqb (field w 20 5) 19) (either-way 19 DIVIDES refl refl (λ op. simp op (div-leads UDIV 19 (λ i. refl, refl) op))) λ n19.
+      by-test (eqb (field w 20 5) 31) (by-op 31 (λ op. simp op (udf-or-bfx op))) λ n31.
+      by-test (eqb (field w 20 5) 26) (by-op 26 (λ op. simp op (bfx-leads SBFX 26 (λ i. refl, refl) op))) λ n26.
+      by-test (eqb (field w 20 5) 27) (by-op 27 (λ op. simp op (bfx-leads SBFX 27 (λ i. refl, refl) op))) λ n27.
+      by-test (eqb (field w 20 5) 30) (by-op 30 (λ op. simp op (bfx-leads UBFX 30 (λ i. refl, refl) op))) λ n30.
+      by-test (eqb (field w 20 5) 28) (by-op 28 (λ op. simp op (bf-leads (upper w 28 op)))) λ n28.
+      by-test (eqb (field w 20 5) 29) (by-op 29 (λ op. simp op (bf-leads (upper w 29 op)))) λ n29.
+      by-test (eqb (field w 20 5) 17) (by-op 17 (λ op. simp op (div-leads SDIV 17 (λ i. refl, refl) op))) λ n17.
+      by-test (eqb (field w 20 5) 19) (by-op 19 (λ op. simp op (div-leads UDIV 19 (λ i. refl, refl) op))) λ n19.
       by-test (eqb (field w 20 5) 10)
-      (by-low 10
-      (λ op low. simp (op, low) (sat-leads SSAT 10 (field w 16 4 + 1) (ssat w) op low))
-      (λ op low. simp (op, low) (extend-leads SXTB SXTAB 10 (λ i. refl, refl) (λ i. refl, refl) op)))
+      (by-op 10 (λ op. simp op (sat-or SSAT 5 (field w 16 5 + 1) _ (ssat w) (upper w 10 op)
+      (extend-leads SXTB SXTAB 10 (λ i. refl, refl) (λ i. refl, refl) op))))
       λ n10.
       by-test (eqb (field w 20 5) 11)
-      (by-low 11
-      (λ op low. simp (op, low) (sat-leads SSAT 11 (field w 16 4 + 1) (ssat w) op low))
-      (λ op low. simp (op, low) (rev-or-extend REV REV16 SXTH SXTAH 11 (λ i. refl, refl) (λ i. refl, refl) (λ i. refl, refl) (λ i. refl, refl) op)))
+      (by-op 11 (λ op. simp op (sat-or SSAT 5 (field w 16 5 + 1) _ (ssat w) (upper w 11 op)
+      (rev-or-extend REV REV16 SXTH SXTAH 11 (λ i. refl, refl) (λ i. refl, refl) (λ i. refl, refl) (λ i. refl, refl) op))))
       λ n11.
       by-test (eqb (field w 20 5) 14)
-      (by-low 14
-      (λ op low. simp (op, low) (sat-leads USAT 14 (field w 16 4) (usat w) op low))
-      (λ op low. simp (op, low) (extend-leads UXTB UXTAB 14 (λ i. refl, refl) (λ i. refl, refl) op)))
+      (by-op 14 (λ op. simp op (sat-or USAT 7 (field w 16 5) _ (usat w) (upper w 14 op)
+      (extend-leads UXTB UXTAB 14 (λ i. refl, refl) (λ i. refl, refl) op))))
       λ n14.
       by-test (eqb (field w 20 5) 15)
-      (by-low 15
-      (λ op low. simp (op, low) (sat-leads USAT 15 (field w 16 4) (usat w) op low))
-      (λ op low. simp (op, low) (rev-or-extend RBIT REVSH UXTH UXTAH 15 (λ i. refl, refl) (λ i. refl, refl) (λ i. refl, refl) (λ i. refl, refl) op)))
+      (by-op 15 (λ op. simp op (sat-or USAT 7 (field w 16 5) _ (usat w) (upper w 15 op)
+      (rev-or-extend RBIT REVSH UXTH UXTAH 15 (λ i. refl, refl) (λ i. refl, refl) (λ i. refl, refl) (λ i. refl, refl) op))))
       λ n15.
-      by-test (eqb (field w 20 5) 8) (either-way 8 ALL-READ refl refl (λ op. simp op (extend-leads SXTB16 SXTAB16 8 (λ i. refl, refl) (λ i. refl, refl) op))) λ n8.
-      by-test (eqb (field w 20 5) 12) (either-way 12 ALL-READ refl refl (λ op. simp op (extend-leads UXTB16 UXTAB16 12 (λ i. refl, refl) (λ i. refl, refl) op))) λ n12.
+      by-test (eqb (field w 20 5) 8) (by-op 8 (λ op. simp op (extend-leads SXTB16 SXTAB16 8 (λ i. refl, refl) (λ i. refl, refl) op))) λ n8.
+      by-test (eqb (field w 20 5) 12) (by-op 12 (λ op. simp op (extend-leads UXTB16 UXTAB16 12 (λ i. refl, refl) (λ i. refl, refl) op))) λ n12.
       λ ok. refusal (simp (n31, n26, n27, n30, n28, n29, n17, n19, n10, n11, n14, n15, n8, n12) at ok)
 
-module _ (w addr : ℕ) where
-  abbrev Kept : ℕ → Type 0
-  Kept home = mediaOf home addr ≡ mediaOf w addr
-
-  -- the saturates ignore bit 20: both values of 24:20 give one answer, which does not read it
-  sat-keeps : (op : ℕ) (of : ℕ → Decoded) → ((u : ℕ) → field u 4 2 ≡ 1 → field u 20 5 ≡ op * 2 + 0 → mediaOf u addr ≡ of u)
-      → ((u : ℕ) → field u 4 2 ≡ 1 → field u 20 5 ≡ op * 2 + 1 → mediaOf u addr ≡ of u) → of (clear w 20 1) ≡ of w
-      → field w 4 2 ≡ 1 → field w 21 4 ≡ op → Kept (clear w 20 1)
-  sat-keeps op of even odd same low e = gives (clear w 20 1) (simp (apart, low)) (simp (apart, e)) ∙ same ∙ sym (gives w low e)
-    where
-      gives : (u : ℕ) → field u 4 2 ≡ 1 → field u 21 4 ≡ op → mediaOf u addr ≡ of u
-      gives u at-01 is-op =
-          bit-cases u 20 (λ b. even u at-01 (simp (is-op, b) at (splits u 20 4 1))) (λ b. odd u at-01 (simp (is-op, b) at (splits u 20 4 1)))
-
-  by-row : (row : ℕ) → mediaRow w ≡ row → Kept (clearAll (ignored row) w) → Kept (clearAll (ignored (mediaRow w)) w)
-  by-row row is-row kept = rw is-row kept
-
-pub media-keeps : (w addr : ℕ) → field w 25 3 ≡ 3 → field w 4 1 ≡ 1 → mediaOf (clearAll (ignored (mediaRow w)) w) addr ≡ mediaOf w addr
+pub media-keeps : (w addr : ℕ) → mediaOf (clearAll (ignored (mediaRow w)) w) addr ≡ mediaOf w addr
 unfolding mediaRow
-media-keeps w addr group four =
-    by-test (eqb (field w 20 5) 17) (λ e. by-row w addr DIVIDES (simp e) (let op : field w 20 5 ≡ 17 = eqb-true _ 17 e in simp (apart, op))) λ n17.
-    by-test (eqb (field w 20 5) 19) (λ e. by-row w addr DIVIDES (simp (n17, e)) (let op : field w 20 5 ≡ 19 = eqb-true _ 19 e in simp (apart, op))) λ n19.
-    by-test (eqb (field w 4 2) 1)
-    (λ low.
-    by-test (eqb (field w 21 4) 5)
-    (λ e.
-    by-row w addr SATURATES (simp (n17, n19, low, e))
-    (sat-keeps w addr 5 (λ u. ssatOf u addr) (λ u at-01 op. simp (op, at-01)) (λ u at-01 op. simp (op, at-01)) (simp apart) (eqb-true _ 1 low) (eqb-true _ 5 e)))
-    λ n5.
-    by-test (eqb (field w 21 4) 7)
-    (λ e.
-    by-row w addr SATURATES (simp (n17, n19, low, n5, e))
-    (sat-keeps w addr 7 (λ u. usatOf u addr) (λ u at-01 op. simp (op, at-01)) (λ u at-01 op. simp (op, at-01)) (simp apart) (eqb-true _ 1 low) (eqb-true _ 7 e)))
-    λ n7.
-    by-row w addr ALL-READ (simp (n17, n19, low, n5, n7)) refl)
-    (λ low. by-row w addr ALL-READ (simp (n17, n19, low)) refl)
+media-keeps w addr =
+    by-test (eqb (field w 20 5) 17) (λ e. let op : field w 20 5 ≡ 17 = eqb-true _ 17 e in simp (apart, op)) λ n17.
+    by-test (eqb (field w 20 5) 19) (λ e. let op : field w 20 5 ≡ 19 = eqb-true _ 19 e in simp (apart, op)) λ n19.
+    simp (n17, n19)

@@ -3,13 +3,13 @@ use mathlib.Core.Path.{_≡_, refl, ap}
 use mathlib.Core.Bool.{Bool, true, false}
 use Prim.Native.Nat.{ℕ}
 use native.Mathlib.Omega.{arith}
-use borrow.Author.Tests.{lt-ltb, ltb-true, ne-eqb}
+use borrow.Author.Tests.{ltb-true, ne-eqb}
 use lib.Dec.{eqb, ltb}
 use Rattle.word.specs.Choice.{pick, fails}
 use Rattle.word.specs.Field.{field, clear, splits}
 use Rattle.dp.specs.DpImm.{hintSlot}
 use Rattle.a32.specs.Decode.{controlOf}
-use Rattle.home.specs.Table.{ignored}
+use Rattle.home.specs.Table.{ignored, ROWS}
 use Rattle.home.specs.Home.{clearAll, controlRow, halfwordRow, moveRow, dpRegRow, extraRow, plainRow, dpMiscRow, dpImmRow, mediaRow, barrierRow, rowOf, raisesOf, raised, homeOf}
 use Rattle.home.proofs.Leads.{bit-cases}
 
@@ -80,43 +80,39 @@ either false = refl
 
 ruleset bounds = (through, either)
 
--- every row of a group is in the table, and those of data processing ignore nothing at 20
+-- every row of a group is in the table
 module _ (w : ℕ) where
-  pub control-below : ltb (controlRow w) 15 ≡ true
+  pub control-below : ltb (controlRow w) ROWS ≡ true
   unfolding controlRow
   control-below = simp bounds
 
-  pub halfword-below : ltb (halfwordRow w) 15 ≡ true
+  pub halfword-below : ltb (halfwordRow w) ROWS ≡ true
   unfolding halfwordRow
   halfword-below = simp bounds
 
-  move-below : ltb (moveRow w) 15 ≡ true
+  move-below : ltb (moveRow w) ROWS ≡ true
   unfolding moveRow
   move-below = simp bounds
 
-  pub dp-reg-below : ltb (dpRegRow w) 15 ≡ true
+  pub dp-reg-below : ltb (dpRegRow w) ROWS ≡ true
   unfolding dpRegRow
   dp-reg-below = simp (bounds, move-below)
 
-  pub extra-below : ltb (extraRow w) 15 ≡ true
+  pub extra-below : ltb (extraRow w) ROWS ≡ true
   unfolding extraRow
   extra-below = simp bounds
 
-  pub dp-imm-below : ltb (dpImmRow w) 15 ≡ true
+  pub dp-imm-below : ltb (dpImmRow w) ROWS ≡ true
   unfolding dpImmRow
   dp-imm-below = simp (bounds, move-below)
 
-  pub media-below : ltb (mediaRow w) 17 ≡ true
+  pub media-below : ltb (mediaRow w) ROWS ≡ true
   unfolding mediaRow
   media-below = simp bounds
 
-  pub barrier-below : ltb (barrierRow w) 17 ≡ true
+  pub barrier-below : ltb (barrierRow w) ROWS ≡ true
   unfolding barrierRow
   barrier-below = simp bounds
-
--- a row below 15 is below 17
-pub fewer : (row : ℕ) → ltb row 15 ≡ true → ltb row 17 ≡ true
-fewer row below = lt-ltb row 17 (omega (arith, ltb-true row 15 below))
 
 -- the rows of immediate data processing that stand apart
 module _ (w : ℕ) where
@@ -149,16 +145,6 @@ coprocessor-home w c p = simp (c, isnt 0 refl, isnt 1 refl, isnt 2 refl, isnt 3 
     isnt n below = ne-eqb (field w 25 3) n (λ is. omega (arith, ltb-true n 6 below, splits w 25 2 1))
 
 -- every row is in the table
-pub row-below : (w : ℕ) → ltb (rowOf w) 17 ≡ true
+pub row-below : (w : ℕ) → ltb (rowOf w) ROWS ≡ true
 unfolding rowOf dpMiscRow plainRow
-row-below w =
-    simp (
-      bounds,
-      fewer (controlRow w) (control-below w),
-      fewer (halfwordRow w) (halfword-below w),
-      fewer (dpRegRow w) (dp-reg-below w),
-      fewer (extraRow w) (extra-below w),
-      fewer (dpImmRow w) (dp-imm-below w),
-      media-below w,
-      barrier-below w,
-    )
+row-below w = simp (bounds, control-below w, halfword-below w, dp-reg-below w, extra-below w, dp-imm-below w, media-below w, barrier-below w)

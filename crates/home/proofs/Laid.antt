@@ -10,25 +10,25 @@ use lib.Pow.{split as split-at}
 use Rattle.word.specs.Choice.{both}
 use Rattle.word.specs.Every.{left, right, every, at-each}
 use Rattle.word.specs.Field.{field, clear, put, parted}
-use Rattle.home.specs.Table.{ignored}
+use Rattle.home.specs.Table.{ignored, ROWS}
 use Rattle.home.specs.Home.{clearAll, twoBytes, clearField}
 
--- a lowest bit is at most 20, and a width at most 12
+-- a lowest bit is at most 16, and a width at most 12
 smallEntry : ℕ → ℕ → Bool
-smallEntry row n = both (ltb (twoBytes row n / 256 % 256) 21) (ltb (twoBytes row n % 256) 13)
+smallEntry row n = both (ltb (twoBytes row n / 256 % 256) 17) (ltb (twoBytes row n % 256) 13)
 
-module _ (row n : ℕ) (rows : row < 17) (fields : n < 4) where
+module _ (row n : ℕ) (rows : row < ROWS) (fields : n < 4) where
   small-entry : T (smallEntry row n)
   unfolding smallEntry
-  small-entry = at-each (smallEntry row) 4 (at-each (λ r. every (smallEntry r) 0 4) 17 tt row rows) n fields
+  small-entry = at-each (smallEntry row) 4 (at-each (λ r. every (smallEntry r) 0 4) ROWS tt row rows) n fields
 
-  pub low-bit : twoBytes row n / 256 % 256 < 21
+  pub low-bit : twoBytes row n / 256 % 256 < 17
   unfolding smallEntry
-  low-bit = ltb→lt _ 21 (left (ltb (twoBytes row n / 256 % 256) 21) (ltb (twoBytes row n % 256) 13) small-entry)
+  low-bit = ltb→lt _ 17 (left (ltb (twoBytes row n / 256 % 256) 17) (ltb (twoBytes row n % 256) 13) small-entry)
 
   pub width : twoBytes row n % 256 < 13
   unfolding smallEntry
-  width = ltb→lt _ 13 (right (ltb (twoBytes row n / 256 % 256) 21) (ltb (twoBytes row n % 256) 13) small-entry)
+  width = ltb→lt _ 13 (right (ltb (twoBytes row n / 256 % 256) 17) (ltb (twoBytes row n % 256) 13) small-entry)
 
 -- a word is what clearing a field leaves, and the field
 pub taken : (w lo k : ℕ) → clear w lo k + field w lo k * 2 ^ lo ≡ w
@@ -50,11 +50,11 @@ from P zero i all k h = absurd (not-suc-le-zero h)
 from P (suc n) i all zero h = subst P (sym (add-zero i)) (all .0)
 from P (suc n) i all (suc k) h = subst P (suc-add i k ∙ sym (add-suc i k)) (from P n (suc i) (all .1) k (le-of-suc-le-suc h))
 
-pub laid-clears : (row w : ℕ) → row < 17 → clearField (clearField (clearField (clearField w row 0) row 1) row 2) row 3 ≡ clearAll (ignored row) w
-laid-clears row w h = subst Clears (zero-add row) (from Clears 17 0 rows row h)
+pub laid-clears : (row w : ℕ) → row < ROWS → clearField (clearField (clearField (clearField w row 0) row 1) row 2) row 3 ≡ clearAll (ignored row) w
+laid-clears row w h = subst Clears (zero-add row) (from Clears ROWS 0 rows row h)
   where
     Clears : ℕ → Type 0
     Clears n = clearField (clearField (clearField (clearField w n 0) n 1) n 2) n 3 ≡ clearAll (ignored n) w
 
-    rows : Each Clears 0 17
-    rows = (simp clear-none, (simp clear-none, (simp clear-none, (refl, (simp clear-none, (simp clear-none, (simp clear-none, (simp clear-none, (simp clear-none, (simp clear-none, (simp clear-none, (simp clear-none, (simp clear-none, (simp clear-none, (simp clear-none, (simp clear-none, (simp clear-none, tt)))))))))))))))))
+    rows : Each Clears 0 ROWS
+    rows = (simp clear-none, (simp clear-none, (simp clear-none, (refl, (simp clear-none, (simp clear-none, (simp clear-none, (simp clear-none, (simp clear-none, (simp clear-none, (simp clear-none, (simp clear-none, (simp clear-none, (simp clear-none, (simp clear-none, (simp clear-none, tt))))))))))))))))

@@ -9,7 +9,7 @@ use lib.Dec.{T, leb, ltb}
 use Rattle.word.specs.Choice.{both, by-test, passes}
 use Rattle.word.specs.Every.{left, right, every, at-each}
 use Rattle.word.specs.Field.{field, clear, keeps-above, keeps-below, clear-le}
-use Rattle.home.specs.Table.{Ignored, ignored}
+use Rattle.home.specs.Table.{Ignored, ignored, ROWS}
 use Rattle.home.specs.Home.{clearAll}
 
 either : Bool → Bool → Bool
@@ -49,31 +49,31 @@ pub kept : (n row lo k w : ℕ) → T (sparedBelow n lo k) → ltb row n ≡ tru
 unfolding sparedBelow
 kept n row lo k w t below = all-spared lo k (ignored row) w (at-each (λ m. spared lo k (ignored m)) n t row (ltb-true row n below))
 
--- no row ignores the condition, 27:22, 9 or 7:4, and those below 15 not 20 either
-module _ (row w : ℕ) (below : ltb row 17 ≡ true) where
+-- no row ignores the condition, 27:20, 9 or 7:4
+module _ (row w : ℕ) (below : ltb row ROWS ≡ true) where
   pub keeps-cond : field (clearAll (ignored row) w) 28 4 ≡ field w 28 4
   unfolding sparedBelow spared beside either
-  keeps-cond = kept 17 row 28 4 w tt below
+  keeps-cond = kept ROWS row 28 4 w tt below
 
   pub keeps-group : field (clearAll (ignored row) w) 25 3 ≡ field w 25 3
   unfolding sparedBelow spared beside either
-  keeps-group = kept 17 row 25 3 w tt below
+  keeps-group = kept ROWS row 25 3 w tt below
 
   pub keeps-4 : field (clearAll (ignored row) w) 4 1 ≡ field w 4 1
   unfolding sparedBelow spared beside either
-  keeps-4 = kept 17 row 4 1 w tt below
+  keeps-4 = kept ROWS row 4 1 w tt below
 
   pub keeps-7 : field (clearAll (ignored row) w) 7 1 ≡ field w 7 1
   unfolding sparedBelow spared beside either
-  keeps-7 = kept 17 row 7 1 w tt below
+  keeps-7 = kept ROWS row 7 1 w tt below
 
   pub keeps-24-23 : field (clearAll (ignored row) w) 23 2 ≡ field w 23 2
   unfolding sparedBelow spared beside either
-  keeps-24-23 = kept 17 row 23 2 w tt below
+  keeps-24-23 = kept ROWS row 23 2 w tt below
 
-pub keeps-20 : (row w : ℕ) → ltb row 15 ≡ true → field (clearAll (ignored row) w) 20 1 ≡ field w 20 1
-unfolding sparedBelow spared beside either
-keeps-20 row w below = kept 15 row 20 1 w tt below
+  pub keeps-20 : field (clearAll (ignored row) w) 20 1 ≡ field w 20 1
+  unfolding sparedBelow spared beside either
+  keeps-20 = kept ROWS row 20 1 w tt below
 
 pub clearAll-le : (fs : List Ignored) (w : ℕ) → clearAll fs w ≤ w
 clearAll-le [] w = le-refl w

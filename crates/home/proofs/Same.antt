@@ -23,7 +23,7 @@ use Rattle.transfer.specs.Branch.{branchOf}
 use Rattle.transfer.specs.Unconditional.{barrierSlot, preloadSlot, unconditionalOf}
 use Rattle.insn.specs.Answer.{accepted, refused}
 use Rattle.a32.specs.Decode.{decodeOf, controlOf, extraOf}
-use Rattle.home.specs.Table.{ignored}
+use Rattle.home.specs.Table.{ignored, ROWS}
 use Rattle.home.specs.Home.{clearAll, controlRow, halfwordRow, dpRegRow, extraRow, dpImmRow, mediaRow, barrierRow, rowOf, raisesOf, raised, homeOf}
 use Rattle.parts.specs.Parts.{at, isAddress}
 use Rattle.home.specs.Word.{wordOf}
@@ -105,7 +105,7 @@ module _ (w addr : ℕ) (bound : w < 2 ^ 32) where
   -- a condition below 15, by 27:25
   module _ (c : eqb (field w 28 4) 15 ≡ false) where
     -- what a row's home word keeps of the tests on the way
-    module _ (row : ℕ) (below : ltb row 17 ≡ true) where
+    module _ (row : ℕ) (below : ltb row ROWS ≡ true) where
       abbrev h : ℕ
       h = clearAll (ignored row) w
 
@@ -121,9 +121,9 @@ module _ (w addr : ℕ) (bound : w < 2 ^ 32) where
       still-7 : {n : ℕ} → field w 7 1 ≡ n → field h 7 1 ≡ n
       still-7 seven = keeps-7 row w below ∙ seven
 
-    still-control : (row : ℕ) → ltb row 15 ≡ true → {b : Bool} → controlOf w ≡ b → controlOf (clearAll (ignored row) w) ≡ b
-    unfolding controlOf
-    still-control row below is = rw (keeps-24-23 row w (H.fewer row below), keeps-20 row w below) is
+      still-control : {b : Bool} → controlOf w ≡ b → controlOf h ≡ b
+      unfolding controlOf
+      still-control is = rw (keeps-24-23 row w below, keeps-20 row w below) is
 
     -- what control is, field by field
     ten-is : controlOf w ≡ true → field w 23 2 ≡ 2
@@ -141,34 +141,34 @@ module _ (w addr : ℕ) (bound : w < 2 ^ 32) where
           (Ways.to-extra (clearAll (ignored (extraRow w)) w) addr (still-c (extraRow w) below) (still-g (extraRow w) below g) (still-4 (extraRow w) below four) (still-7 (extraRow w) below seven) ∙ extra-keeps w addr g seven four)
           (by-leads 49 74 _ (extraOf w addr) (extra-leads w addr bound g seven four) Ways.named-extra)
         where
-          below : ltb (extraRow w) 17 ≡ true
-          below = H.fewer (extraRow w) (H.extra-below w)
+          below : ltb (extraRow w) ROWS ≡ true
+          below = H.extra-below w
 
       halfword : controlOf w ≡ true → field w 4 1 ≡ 0 → field w 7 1 ≡ 1 → Settled
       halfword is four seven =
           settle (clearAll (ignored (halfwordRow w)) w) (halfwordOf w addr) (H.halfword-home w c g is four seven) (Ways.to-halfword w addr c g is four seven)
-          (Ways.to-halfword (clearAll (ignored (halfwordRow w)) w) addr (still-c (halfwordRow w) below) (still-g (halfwordRow w) below g) (still-control (halfwordRow w) (H.halfword-below w) is) (still-4 (halfwordRow w) below four) (still-7 (halfwordRow w) below seven) ∙ halfword-keeps w addr)
+          (Ways.to-halfword (clearAll (ignored (halfwordRow w)) w) addr (still-c (halfwordRow w) below) (still-g (halfwordRow w) below g) (still-control (halfwordRow w) below is) (still-4 (halfwordRow w) below four) (still-7 (halfwordRow w) below seven) ∙ halfword-keeps w addr)
           (by-leads 133 148 _ (halfwordOf w addr)
           (halfword-leads w addr bound g (ten-is is) (s-is is) seven four)
           (λ i plain. Ways.named-halfword i plain 148))
         where
-          below : ltb (halfwordRow w) 17 ≡ true
-          below = H.fewer (halfwordRow w) (H.halfword-below w)
+          below : ltb (halfwordRow w) ROWS ≡ true
+          below = H.halfword-below w
 
       control : controlOf w ≡ true → Settled
       control is =
           bit-cases w 7
           (λ seven.
           settle (clearAll (ignored (controlRow w)) w) (miscOf w addr) (H.misc-home w c g is seven) (Ways.to-misc w addr c g is seven)
-          (Ways.to-misc (clearAll (ignored (controlRow w)) w) addr (still-c (controlRow w) below) (still-g (controlRow w) below g) (still-control (controlRow w) (H.control-below w) is) (still-7 (controlRow w) below seven) ∙ misc-keeps w addr)
+          (Ways.to-misc (clearAll (ignored (controlRow w)) w) addr (still-c (controlRow w) below) (still-g (controlRow w) below g) (still-control (controlRow w) below is) (still-7 (controlRow w) below seven) ∙ misc-keeps w addr)
           (λ ok. Ways.named-misc _ (leads seven ok .2) (leads seven ok .1) (misc-second w addr ok) ∙ leads seven ok .0))
           (λ seven.
           bit-cases w 4
           (λ four. halfword is four seven)
           (λ four. extra four seven))
         where
-          below : ltb (controlRow w) 17 ≡ true
-          below = H.fewer (controlRow w) (H.control-below w)
+          below : ltb (controlRow w) ROWS ≡ true
+          below = H.control-below w
 
           leads : field w 7 1 ≡ 0 → Leads miscWord 38 48 (clearAll (ignored (controlRow w)) w) (miscOf w addr)
           leads seven =
@@ -180,13 +180,13 @@ module _ (w addr : ℕ) (bound : w < 2 ^ 32) where
           (λ seven. register (λ four. seven))
           (λ seven. bit-cases w 4 (λ four. register (λ set. never four set)) (λ four. extra four seven))
         where
-          below : ltb (dpRegRow w) 17 ≡ true
-          below = H.fewer (dpRegRow w) (H.dp-reg-below w)
+          below : ltb (dpRegRow w) ROWS ≡ true
+          below = H.dp-reg-below w
 
           register : (field w 4 1 ≡ 1 → field w 7 1 ≡ 0) → Settled
           register seven =
               settle (clearAll (ignored (dpRegRow w)) w) (dpRegOf w addr) (H.dp-home w c g is seven) (Ways.to-dp w addr c g is seven)
-              (Ways.to-dp (clearAll (ignored (dpRegRow w)) w) addr (still-c (dpRegRow w) below) (still-g (dpRegRow w) below g) (still-control (dpRegRow w) (H.dp-reg-below w) is)
+              (Ways.to-dp (clearAll (ignored (dpRegRow w)) w) addr (still-c (dpRegRow w) below) (still-g (dpRegRow w) below g) (still-control (dpRegRow w) below is)
               (λ set. still-7 (dpRegRow w) below (seven (sym (keeps-4 (dpRegRow w) w below) ∙ set))) ∙ dp-reg-keeps w addr)
               (by-leads 0 37 _ (dpRegOf w addr) (dp-reg-leads w addr bound g is seven) Ways.named-dp)
 
@@ -196,8 +196,8 @@ module _ (w addr : ℕ) (bound : w < 2 ^ 32) where
         (Ways.to-dp-imm (clearAll (ignored (dpImmRow w)) w) addr (still-c (dpImmRow w) below) (still-g (dpImmRow w) below g) ∙ dp-imm-keeps w addr)
         back
       where
-        below : ltb (dpImmRow w) 17 ≡ true
-        below = H.fewer (dpImmRow w) (H.dp-imm-below w)
+        below : ltb (dpImmRow w) ROWS ≡ true
+        below = H.dp-imm-below w
 
         back : (dpImmOf w addr) .refusal ≡ 0 → wordOf ((dpImmOf w addr) .insn) ≡ clearAll (ignored (dpImmRow w)) w
         back =
@@ -253,7 +253,7 @@ module _ (w addr : ℕ) (bound : w < 2 ^ 32) where
         (Ways.to-ldst-index (raised (raisesOf w) w) addr raised-c (raised-g g) (raised-4 four)))
         (λ four.
         settle (clearAll (ignored (mediaRow w)) w) (mediaOf w addr) (H.media-home w c g four) (Ways.to-media w addr c g four)
-        (Ways.to-media (clearAll (ignored (mediaRow w)) w) addr (still-c (mediaRow w) (H.media-below w)) (still-g (mediaRow w) (H.media-below w) g) (still-4 (mediaRow w) (H.media-below w) four) ∙ media-keeps w addr g four)
+        (Ways.to-media (clearAll (ignored (mediaRow w)) w) addr (still-c (mediaRow w) (H.media-below w)) (still-g (mediaRow w) (H.media-below w) g) (still-4 (mediaRow w) (H.media-below w) four) ∙ media-keeps w addr)
         (by-leads 90 114 _ (mediaOf w addr) (media-leads w addr bound g four) Ways.named-media))
 
     multiple : field w 25 3 ≡ 4 → Settled

@@ -10,7 +10,7 @@ use Rattle.a32.specs.Decode.{controlOf, decodeOf}
 use Rattle.dp.specs.DpImm.{hintSlot}
 use Rattle.transfer.specs.Unconditional.{barrierSlot, preloadSlot}
 use Rattle.home.specs.declared.Homed.{Homed}
-use Rattle.home.specs.Table.{Ignored, ignored, laid, ALL-READ, MOVES, COMPARES, MRS-ROW, MSR-REGISTER, MSR-IMMEDIATE, EXCHANGES, CLZ-ROW, SATURATING, EXCLUSIVE-STORES, EXCLUSIVE-LOADS, EXTRA-INDEX, HINTS, PRODUCTS, DIVIDES, SATURATES, CLREX-ROW}
+use Rattle.home.specs.Table.{Ignored, ignored, laid, ALL-READ, MOVES, COMPARES, MRS-ROW, MSR-REGISTER, MSR-IMMEDIATE, EXCHANGES, CLZ-ROW, SATURATING, EXCLUSIVE-STORES, EXCLUSIVE-LOADS, EXTRA-INDEX, HINTS, PRODUCTS, DIVIDES, CLREX-ROW}
 
 -- one fold that clears a row's fields
 abbrev pub clearAll : List Ignored → ℕ → ℕ
@@ -85,14 +85,9 @@ dpImmRow w =
     (pick (eqb (field w 20 5) 22) MSR-IMMEDIATE
     (pick (eqb (field w 23 2) 2) COMPARES (moveRow w)))))
 
--- sdiv, udiv; ssat and usat, which are told by 5:4 = 01
+-- sdiv, udiv
 unfoldable pub mediaRow : ℕ → ℕ
-mediaRow w =
-    pick (eqb (field w 20 5) 17) DIVIDES
-    (pick (eqb (field w 20 5) 19) DIVIDES
-    (pick (eqb (field w 4 2) 1)
-    (pick (eqb (field w 21 4) 5) SATURATES (pick (eqb (field w 21 4) 7) SATURATES ALL-READ))
-    ALL-READ))
+mediaRow w = pick (eqb (field w 20 5) 17) DIVIDES (pick (eqb (field w 20 5) 19) DIVIDES ALL-READ)
 
 -- clrex, of the barriers, by 7:4
 unfoldable pub barrierRow : ℕ → ℕ

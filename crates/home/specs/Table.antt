@@ -1,4 +1,4 @@
--- 01, "Home words", and 02, P1 and P3, as a table: the rows that ignore bits, and the fields that each ignores.
+-- 01, "Home words", and 02, P1, P3 and P4, as a table: the rows that ignore bits, and the fields that each ignores.
 use mathlib.Core.List.{List, [], _∷_}
 use Prim.Native.Nat.{ℕ, _+_, _-_}
 use lib.ListN.{getD}
@@ -58,11 +58,12 @@ PRODUCTS = 13
 abbrev pub DIVIDES : ℕ
 DIVIDES = 14
 
-abbrev pub SATURATES : ℕ
-SATURATES = 15
-
 abbrev pub CLREX-ROW : ℕ
-CLREX-ROW = 16
+CLREX-ROW = 15
+
+-- how many there are
+abbrev pub ROWS : ℕ
+ROWS = 16
 
 abbrev pub table : List (List Ignored)
 table =
@@ -91,8 +92,7 @@ table =
     -- "mul, sdiv, udiv: 15:12."; 02, P3: "smul and smulw ignore 15:12", as mul does
     (bits 15 12 ∷ []) ∷
     (bits 15 12 ∷ []) ∷
-    -- "ssat, usat: 20."
-    (bits 20 20 ∷ []) ∷
+    -- 02, P4, of 01's "ssat, usat: 20.": "Bit 20 is no longer ignored"
     -- 02, P1: "drops preloads' 21:20 and gains clrex, 3:0"
     (bits 3 0 ∷ []) ∷
     []
@@ -118,6 +118,5 @@ laid =
     0x0804 ∷
     0x0c04 ∷
     0x0c04 ∷
-    0x1401 ∷
     0x0004 ∷
     []

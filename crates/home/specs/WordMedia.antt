@@ -61,14 +61,14 @@ extendWord op i = extendLaid i op (at i 1 .reg) (at i 2 .amount) 15
 abbrev pub addExtendWord : ℕ → Insn → ℕ
 addExtendWord op i = extendLaid i op (at i 2 .reg) (at i 3 .amount) (at i 1 .reg)
 
--- rm 5:4 asr amount rd number 0 24:21 011 cond
+-- rm 5:4 asr amount rd number 24:21 011 cond
 abbrev pub satLayout : List ℕ
-satLayout = 4 ∷ 2 ∷ 1 ∷ 5 ∷ 4 ∷ 4 ∷ 1 ∷ 4 ∷ 3 ∷ 4 ∷ []
+satLayout = 4 ∷ 2 ∷ 1 ∷ 5 ∷ 4 ∷ 5 ∷ 4 ∷ 3 ∷ 4 ∷ []
 
 -- asr by 32 is written 0
 abbrev pub satLaid : ℕ → ℕ → Insn → ℕ
 satLaid op n i =
-    join satLayout (at i 2 .reg ∷ 1 ∷ at i 3 .how / 2 ∷ at i 3 .amount % 32 ∷ at i 0 .reg ∷ n ∷ 0 ∷ op ∷ 3 ∷ i .cond .0 ∷ [])
+    join satLayout (at i 2 .reg ∷ 1 ∷ at i 3 .how / 2 ∷ at i 3 .amount % 32 ∷ at i 0 .reg ∷ n ∷ op ∷ 3 ∷ i .cond .0 ∷ [])
 
 abbrev pub ssatWord : Insn → ℕ
 ssatWord i = satLaid 5 (number (at i 1) - 1) i

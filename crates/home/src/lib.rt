@@ -7,7 +7,7 @@ use word::bits;
 ghost use mathlib.Core.Path.{_≡_};
 ghost use Prim.Native.Nat.{_+_, _<_, _≤_};
 ghost use Rattle.word.specs.Field as F;
-ghost use Rattle.home.specs.Table.{ignored};
+ghost use Rattle.home.specs.Table.{ignored, ROWS};
 ghost use Rattle.home.specs.Home.{clearAll, clearField, homeOf, offsetForm, raisesOf, homeAnswer};
 
 mod row;
@@ -94,7 +94,7 @@ fn clear(w: u32, lo: u32, k: u32) -> u32
 }
 
 /// The table of ignored bits: for each row up to four fields of two bytes each, a lowest bit above a width.
-const IGNORED: [u64; 17] = [
+const IGNORED: [u64; 16] = [
     0, // all read
     0x1004, // mov, mvn, shift names
     0x0c04, // compares
@@ -110,13 +110,12 @@ const IGNORED: [u64; 17] = [
     0x0804, // hints
     0x0c04, // mul, smul, smulw
     0x0c04, // sdiv, udiv
-    0x1401, // ssat, usat
     0x0004, // clrex
 ];
 
 /// Field `n` of the row, cleared.
 fn clear_field(w: u32, row: usize, n: u32) -> u32
-    requires { ⌜ (row < 17) × (n < 4) ⌝ }
+    requires { ⌜ (row < ROWS) × (n < 4) ⌝ }
     ensures { λ r. ⌜ r ≡ clearField w row n ⌝ }
 {
     let field = IGNORED[row] >> (16 * n);
@@ -125,7 +124,7 @@ fn clear_field(w: u32, row: usize, n: u32) -> u32
 
 /// Every field of the row, cleared.
 fn clear_row(w: u32, row: usize) -> u32
-    requires { ⌜ row < 17 ⌝ }
+    requires { ⌜ row < ROWS ⌝ }
     ensures { λ r. ⌜ r ≡ clearAll (ignored row) w ⌝ }
 {
     let a = clear_field(w, row, 0);

@@ -37,9 +37,7 @@ const PRODUCTS: usize = 13;
 
 const DIVIDES: usize = 14;
 
-const SATURATES: usize = 15;
-
-const CLREX: usize = 16;
+const CLREX: usize = 15;
 
 pub fn row(w: u32) -> usize
     ensures { λ r. ⌜ r ≡ rowOf w ⌝ }
@@ -218,24 +216,10 @@ fn media_row(w: u32) -> usize
     ensures { λ r. ⌜ r ≡ mediaRow w ⌝ }
 {
     let op1 = bits(w, 24, 20);
-    let op = bits(w, 24, 21);
-    let sat = bits(w, 5, 4);
     match op1 {
         17 => DIVIDES,
         19 => DIVIDES,
-        _ => {
-            if sat == 0b01 {
-                if op == 0b0101 {
-                    return SATURATES;
-                }
-                if op == 0b0111 {
-                    return SATURATES;
-                }
-                ALL_READ
-            } else {
-                ALL_READ
-            }
-        }
+        _ => ALL_READ,
     }
 }
 

@@ -116,9 +116,6 @@ module _ (w : ℕ) where
   pub high-5-bit : field w 5 3 / 1 % 2 ≡ field w 5 2 / 1 % 2
   high-5-bit = sym (part w 5 3 0 1 refl) ∙ part w 5 2 0 1 refl
 
-  pub wide-16-5 : field w 16 5 ≡ field w 20 1 * 16 + field w 16 4
-  wide-16-5 = splits w 16 1 4
-
   pub six-25 : field w 20 6 / 32 % 2 ≡ field w 25 1
   six-25 = sym (part w 20 6 5 1 refl)
 

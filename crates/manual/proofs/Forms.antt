@@ -1,7 +1,7 @@
--- Numbers by which two answers are told apart: what an operand's memory form or count has. Assumes nothing.
+-- Numbers by which two answers are told apart: a flow, and what an operand's memory form has. Assumes nothing.
 use mathlib.Core.Bool.{Bool}
 use Prim.Native.Nat.{ℕ}
-use lib.IntN.{pos, natAbs}
+use lib.IntN.{pos}
 use lib.ListN.{getD}
 use Rattle.word.specs.Choice.{pick}
 use Rattle.insn.specs.Memory.{baseDisp}
@@ -12,41 +12,34 @@ use Rattle.insn.specs.declared.Operand.{Operand}
 use Rattle.insn.specs.declared.Operand.the-variants.{Empty, Register, Shifted, ShiftBy, SaturateShift, Rotate, Count, Number, StatusMask, StatusSource, WriteBack, Address, Memory, Option}
 use Rattle.insn.specs.declared.Operand.the-variants as Op
 
-pub record Parts : Type 0 where
-  pub memory : Mem
-  pub count : ℕ
+abbrev none : Mem
+none = baseDisp (record { 0 = 0 }) (pos 0) 0
 
-abbrev neither : Parts
-neither = record { memory = baseDisp (record { 0 = 0 }) (pos 0) 0; count = 0 }
+abbrev memory : Operand → Mem
+memory Empty = none
+memory (Register r) = none
+memory (Shifted r k n) = none
+memory (ShiftBy k r) = none
+memory (SaturateShift k n) = none
+memory (Rotate n) = none
+memory (Count z) = none
+memory (Number n) = none
+memory (StatusMask n) = none
+memory (StatusSource s) = none
+memory (WriteBack r) = none
+memory (Op.List n) = none
+memory (Address n) = none
+memory (Memory m) = m
+memory (Option n) = none
 
-abbrev parts : Operand → Parts
-parts Empty = neither
-parts (Register r) = neither
-parts (Shifted r k n) = neither
-parts (ShiftBy k r) = neither
-parts (SaturateShift k n) = neither
-parts (Rotate n) = neither
-parts (Count z) = record { memory = neither .memory; count = natAbs z }
-parts (Number n) = neither
-parts (StatusMask n) = neither
-parts (StatusSource s) = neither
-parts (WriteBack r) = neither
-parts (Op.List n) = neither
-parts (Address n) = neither
-parts (Memory m) = record { memory = m; count = 0 }
-parts (Option n) = neither
-
-abbrev at : ℕ → Decoded → Parts
-at n d = parts (getD (d .insn .ops) n (record { operand = Empty }) .operand)
+abbrev at : ℕ → Decoded → Mem
+at n d = memory (getD (d .insn .ops) n (record { operand = Empty }) .operand)
 
 abbrev pub flowOf : Decoded → ℕ
 flowOf d = flowNumber (d .insn .flow)
 
 abbrev pub modeAt : ℕ → Decoded → ℕ
-modeAt n d = modeNumber (at n d .memory .mode)
+modeAt n d = modeNumber (at n d .mode)
 
 abbrev pub markAt : ℕ → Decoded → ℕ
-markAt n d = pick (at n d .memory .«minus_zero») 1 0
-
-abbrev pub countAt : ℕ → Decoded → ℕ
-countAt n d = at n d .count
+markAt n d = pick (at n d .«minus_zero») 1 0

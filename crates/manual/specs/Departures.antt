@@ -2,10 +2,9 @@
 -- under its name.
 use mathlib.Core.Bool.{Bool, true, false, not}
 use mathlib.Core.List.{List, [], _∷_}
-use Prim.Native.Nat.{ℕ, _+_, _%_}
+use Prim.Native.Nat.{ℕ, _%_}
 use Prim.Native.String.{String}
 use lib.Dec.{eqb, ltb}
-use lib.IntN.{pos}
 use Rattle.word.specs.Choice.{pick, both}
 use Rattle.word.specs.Field.{field}
 use Rattle.insn.specs.Answer.{insnOf, accepted, refused}
@@ -16,9 +15,8 @@ use Rattle.insn.specs.declared.Decoded.{Decoded}
 use Rattle.insn.specs.declared.Index.the-variants.{Absent}
 use Rattle.insn.specs.declared.Flow.{Flow}
 use Rattle.insn.specs.declared.Flow.the-variants.{Next, IndirectBranch}
-use Rattle.insn.specs.declared.Operand.the-variants.{Count}
 use Rattle.manual.specs.A8.{isAmong, otherPageOf, Said, reads, beyond, names, unlisted, undefined, unpredictable, Page, saidAmong, saidOf, reading, transfers, immediate, withIndex, unprivileged, extra, one, pair, _:=_}
-use Rattle.manual.specs.Reads.{isSet, R, writesPC, addressing, offset, isMinusZero, memory, saturateShift}
+use Rattle.manual.specs.Reads.{isSet, writesPC, addressing, offset, isMinusZero, memory}
 
 pub data Departure : Type 0 where
   adr : Departure
@@ -33,7 +31,6 @@ pub data Departure : Type 0 where
   literal-index : Departure
   minus-zero : Departure
   empty-list : Departure
-  saturate-bits : Departure
   width : Departure
   reverse-bits : Departure
   extend-bits : Departure
@@ -136,7 +133,6 @@ coverings w =
     (literal-index covers literals when not (isOffset (addressing w))) ∷
     (minus-zero covers displaced when both (isOffset (addressing w)) (isMinusZero w (field w 0 12))) ∷
     (empty-list covers multiples when eqb (field w 0 16) 0) ∷
-    (saturate-bits covers ("SSAT" ∷ "USAT" ∷ []) when isSet w 20) ∷
     (width covers ("BFC" ∷ "BFI" ∷ []) when ltb (field w 16 5) (field w 7 5)) ∷
     (reverse-bits covers ("REV" ∷ "REV16" ∷ "RBIT" ∷ "REVSH" ∷ []) when not (both (eqb (field w 16 4) 15) (eqb (field w 8 4) 15))) ∷
     (extend-bits covers extends when not (eqb (field w 8 2) 0)) ∷
@@ -205,13 +201,6 @@ module _ (w addr : ℕ) where
       ("PLD (literal)" := preloading N.PLD) ∷
       []
 
-  -- four bits of the five
-  abbrev pub portSaturates : List Page
-  portSaturates =
-      ("SSAT" := reading w addr N.SSAT Next (R w 12 ∷ Count (pos (field w 16 4 + 1)) ∷ R w 0 ∷ saturateShift w ∷ [])) ∷
-      ("USAT" := reading w addr N.USAT Next (R w 12 ∷ Count (pos (field w 16 4)) ∷ R w 0 ∷ saturateShift w ∷ [])) ∷
-      []
-
   -- what the decoder answers, of a row of A5's tables and the page that reads it
   abbrev pub portOf : Departure → String → String → Decoded
   portOf adr row page = answered (saidOf w addr (pick (isSet w 23) "ADD (immediate, ARM)" "SUB (immediate, ARM)"))
@@ -226,7 +215,6 @@ module _ (w addr : ℕ) where
   portOf literal-index row page = answered (saidAmong page portLoads)
   portOf minus-zero row page = answered (saidAmong page portLoads)
   portOf empty-list row page = refused 3
-  portOf saturate-bits row page = answered (saidAmong page portSaturates)
   portOf width row page = refused 3
   portOf reverse-bits row page = refused 3
   portOf extend-bits row page = refused 3

@@ -1,4 +1,4 @@
--- 01, "Media": "27:25 = 011, bit 4 set, by 24:20 and 7:5".
+-- 01, "Media": "27:25 = 011, bit 4 set, by 24:20 and 7:5", and 02, P4.
 use mathlib.Core.List.{[], _∷_}
 use Prim.Native.Nat.{ℕ, _+_, _-_, _*_}
 use lib.Dec.{eqb, ltb}
@@ -56,12 +56,12 @@ abbrev pub satOf : ℕ → ℕ → ℕ → ℕ → Decoded
 satOf w addr name number =
     answer w addr name Next (regOf w rd ∷ Count (pos number) ∷ regOf w rm ∷ satShiftOf w ∷ [])
 
--- "saturate number from 19:16 (ssat adds 1)"
+-- 02, P4: "five bits, 20:16", "ssat adds 1 and gives 1 to 32, usat 0 to 31"
 abbrev pub ssatOf : ℕ → ℕ → Decoded
-ssatOf w addr = satOf w addr SSAT (field w 16 4 + 1)
+ssatOf w addr = satOf w addr SSAT (field w 16 5 + 1)
 
 abbrev pub usatOf : ℕ → ℕ → Decoded
-usatOf w addr = satOf w addr USAT (field w 16 4)
+usatOf w addr = satOf w addr USAT (field w 16 5)
 
 -- "With Rn and 11:8 both 15"
 abbrev pub revOf : ℕ → ℕ → ℕ → Decoded

@@ -157,13 +157,13 @@ fn div(w: u32, addr: u64, name: u16) -> Decoded
 fn ssat(w: u32, addr: u64) -> Decoded
     ensures { λ r. ⌜ r ≡ ssatOf w addr ⌝ }
 {
-    sat(w, addr, name::SSAT, bits(w, 19, 16) + 1)
+    sat(w, addr, name::SSAT, bits(w, 20, 16) + 1)
 }
 
 fn usat(w: u32, addr: u64) -> Decoded
     ensures { λ r. ⌜ r ≡ usatOf w addr ⌝ }
 {
-    sat(w, addr, name::USAT, bits(w, 19, 16))
+    sat(w, addr, name::USAT, bits(w, 20, 16))
 }
 
 fn sat(w: u32, addr: u64, name: u16, number: u32) -> Decoded

@@ -83,11 +83,11 @@ module _ (w addr : ℕ) (c : eqb (field w 28 4) 15 ≡ false) where
   abbrev saturates : Bool
   saturates = eqb (field w 4 2) 1
 
-  ssat : Good addr (satOf w addr SSAT (field w 16 4 + 1))
-  ssat = sat SSAT (tt, c) refl (field w 16 4 + 1) (omega (arith, reg w 16))
+  ssat : Good addr (satOf w addr SSAT (field w 16 5 + 1))
+  ssat = sat SSAT (tt, c) refl (field w 16 5 + 1) (omega (arith, small w 16 5))
 
-  usat : Good addr (satOf w addr USAT (field w 16 4))
-  usat = sat USAT (tt, c) refl (field w 16 4) (omega (arith, reg w 16))
+  usat : Good addr (satOf w addr USAT (field w 16 5))
+  usat = sat USAT (tt, c) refl (field w 16 5) (omega (arith, small w 16 5))
 
   pub media-good : Good addr (mediaOf w addr)
   media-good =

@@ -63,11 +63,17 @@ string address(const string &a) {
     return "[" + coreRegister(in.substr(0, offset)) + ":-:" + (offset == string::npos ? "0" : in.substr(offset + 3)) + ":o:1]";
 }
 
-// "r1, fp, r3" as "r1 r11 r3"
+// "asr #3" as "asr,3"; else a register, a number or an option
+string operand(const string &o) {
+    const size_t amount = o.find(" #");
+    return amount == string::npos ? coreRegister(o) : o.substr(0, amount) + "," + o.substr(amount + 2);
+}
+
+// "r1, #4, fp, lsl #2" as "r1 #4 r11 lsl,2"
 string operands(const string &o) {
     if (o[0] == '[') return address(o);
     const size_t end = o.find(", ");
-    return end == string::npos ? coreRegister(o) : coreRegister(o.substr(0, end)) + " " + operands(o.substr(end + 2));
+    return end == string::npos ? operand(o) : operand(o.substr(0, end)) + " " + operands(o.substr(end + 2));
 }
 
 Reading theirs(const string &text) {
@@ -97,6 +103,12 @@ string signedZero(const string &address, uint32_t w) {
     return zero == string::npos || w >> 23 & 1 ? address : address.substr(0, zero) + ":-0:" + address.substr(zero + 3);
 }
 
+// the operands with 0 for the 32 that a shift to the right is by
+string zeroFor32(const string &operands) {
+    const size_t by = operands.find(" asr,32");
+    return by == string::npos ? operands : operands.substr(0, by) + " asr,0";
+}
+
 bool isProduct(const string &name) { return name.compare(0, 4, "smul") == 0; }
 
 // whether a bit of the word is not as its page draws it in parentheses
@@ -109,6 +121,7 @@ string classOf(uint32_t w, const Reading &here, const Reading &there, bool marke
     if (here.name == there.name && isBarrier(here.name) && option(here.operands) == int(w & 15) && option(there.operands) == int(w & 15))
         return "the same option, spelled otherwise";
     if (here.name == there.name && signedZero(here.operands, w) == there.operands) return "minus zero, which they tell from zero";
+    if (here.name == there.name && zeroFor32(here.operands) == there.operands) return "asr by 32, which they spell as 0";
     if (later(there.name)) return "ARMv8 and later: " + there.name;
     if (strayBits(w, here.name) && there.name.empty()) return "should-be bits: they have no instruction";
     if (strayBits(w, here.name) && here.name != there.name) return "should-be bits: they name another instruction";

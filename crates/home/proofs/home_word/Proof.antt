@@ -1,6 +1,7 @@
 -- `home::home_word` meets its contract. Assumes nothing.
 use borrow.Author.Needs.{needs}
 use borrow.Author.Tests.{ltb-true}
+use Rattle.home.specs.Table.{ROWS}
 use Rattle.home.specs.Home.{rowOf, homeOf}
 use Rattle.home.proofs.Homes.{row-below}
 use Rattle.home.proofs.home_word.Statement.{statement}
@@ -10,7 +11,7 @@ row-requires : tie.Need-row-requires
 row-requires c κs = search needs
 
 clear-row-requires : tie.Need-clear-row-requires
-clear-row-requires c κs = rw (c .row .ensures) (ltb-true (rowOf (c .before .args .w)) 17 (row-below (c .before .args .w)))
+clear-row-requires c κs = rw (c .row .ensures) (ltb-true (rowOf (c .before .args .w)) ROWS (row-below (c .before .args .w)))
 
 is-raised-requires : tie.Need-is-raised-requires
 is-raised-requires c κs = search needs

@@ -9,7 +9,7 @@ bits-requires : tie.Need-bits-requires
 bits-requires c κs = search needs
 
 add-sat : tie.Need-add-sat
-add-sat c = record { fits = rw (c .bits .ensures) (omega (arith, small (c .before .args .w) 16 4)) }
+add-sat c = record { fits = rw (c .bits .ensures) (omega (arith, small (c .before .args .w) 16 5)) }
 
 sat-requires : tie.Need-sat-requires
 sat-requires c κs = search needs
