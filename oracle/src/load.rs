@@ -330,12 +330,14 @@ fn listed(proved: Proved, section: &[u8], expected: &[u8], room: usize) -> Resul
     Ok(())
 }
 
-/// What a program prints that ends as it should. It need not read all of its input.
+/// What a program prints that ends as it should: with the status 0, or, as `./list` of a section
+/// that it refuses, with 2. It need not read all of its input.
 fn printed(command: &[&str], input: &[u8]) -> io::Result<Vec<u8>> {
     let mut child = Command::new(command[0])
         .args(&command[1..])
         .stdin(Stdio::piped())
         .stdout(Stdio::piped())
+        .stderr(Stdio::null())
         .spawn()?;
     let mut stdin = child.stdin.take().expect("its standard input");
     // A pipe takes more than a section has, so that this does not wait for the program to print.
@@ -344,7 +346,8 @@ fn printed(command: &[&str], input: &[u8]) -> io::Result<Vec<u8>> {
         _ => drop(stdin),
     }
     let output = child.wait_with_output()?;
-    if output.status.success() {
+    let refused = output.status.code() == Some(2) && output.stdout.starts_with(b"refused ");
+    if output.status.success() || refused {
         Ok(output.stdout)
     } else {
         Err(io::Error::other(output.status.to_string()))
