@@ -32,6 +32,28 @@ impl Refusal {
     pub const NO_ROOM: Refusal = Refusal(10);
 }
 
+impl core::error::Error for Refusal {}
+
+impl core::fmt::Display for Refusal {
+    fn fmt(&self, f: &mut core::fmt::Formatter<'_>) -> core::fmt::Result {
+        // As refusals.txt has them.
+        let why = match self.0 {
+            1 => ": fewer than 4 bytes",
+            2 => ": out of scope: condition below 15 and bits 27:26 = 11",
+            3 => ": no instruction that is known here",
+            4 => ": no word has this answer",
+            5 => ": mark not RSX",
+            6 => ": version not 1",
+            7 => ": shorter than 9 bytes, or not whole words",
+            8 => ": more than 4,096 words",
+            9 => ": base not a multiple of 4, or words beyond the last address",
+            10 => ": longer than the lent buffer",
+            _ => "",
+        };
+        write!(f, "refused {}{why}", self.0)
+    }
+}
+
 /// Decodes a word into the first numbers of `row`. A refusal changes none of them.
 pub fn decode(word: u32, address: u64, row: &mut [u64]) -> Result<(), Refusal> {
     match unsafe { foreign::brassdozen_decode(word, address, row.as_mut_ptr(), row.len()) } {
