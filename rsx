@@ -20,7 +20,10 @@ die() {
     exit 2
 }
 
-[ "${1:-}" != --help ] || { help && exit; }
+[ "${1:-}" != --help ] || {
+    help
+    exit
+}
 [ $# -eq 2 ] || die "usage: ./rsx FILE.elf SECTION > FILE.rsx"
 file=$1 name=$2
 command -v readelf >/dev/null || die "there is no command readelf: binutils is needed"
