@@ -21,7 +21,7 @@ ghost use Rattle.text.specs.Put.{Room, Put};
 ghost use Rattle.spelling.specs.Line.{nameOf, insnText, refusedText, answerText, lineText, lineOf};
 
 /// No line takes more bytes.
-const MOST: usize = 96;
+pub const MOST: usize = 96;
 
 /// Writes the line of `word` at `addr` to the start of `out`. A buffer that might be too short gets it once it is known to fit.
 pub fn line(addr: u64, word: u32, out: &mut [u8]) -> Written

@@ -1,4 +1,5 @@
 -- Facts of the crate that belong to no one function.
-pub mod Enough
 pub mod Grow
+pub mod Enough
+pub mod Laid
 pub mod Unique

@@ -1,38 +1,45 @@
 -- The listing of a section (01, "Section and listing").
-use mathlib.Core.List.{List, [], _++_}
-use Prim.Native.Nat.{ℕ, zero, suc, _+_, _-_}
+use mathlib.Core.List.{List, [], _++_, foldl}
+use Prim.Native.Nat.{ℕ, _+_, _-_}
 use lib.Dec.{eqb}
 use Rattle.word.specs.Choice.{pick}
-use Rattle.insn.specs.declared.Decoded.{Decoded}
 use Rattle.a32.specs.Decode.{decodeOf}
 use Rattle.text.specs.Text.{bytes, decimalOf, hexOf}
 use Rattle.spelling.specs.Line.{refusedText, lineOf}
-use Rattle.section.specs.Section.{versionOf, baseOf, countOf, refusalOf, sectionWord, sectionAddress}
+use Rattle.section.specs.Section.{openedOf, placesOf}
+use Rattle.section.specs.declared.Here.{Here}
+use Rattle.section.specs.declared.Here.the-variants.{Word, End}
+use Rattle.section.specs.declared.Opened.{Opened}
 
 -- "Header: mark, version, base, count"
-unfoldable pub headerOf : ℕ → ℕ → ℕ → List ℕ
-headerOf version base count =
-    bytes "RSX " ++ decimalOf version ++
-    bytes " " ++ hexOf 8 base ++
-    bytes " " ++ decimalOf count ++
+unfoldable pub headerOf : Opened → List ℕ
+headerOf o =
+    bytes "RSX " ++ decimalOf (o .version) ++
+    bytes " " ++ hexOf 8 (o .base) ++
+    bytes " " ++ decimalOf (o .count) ++
     bytes "\n"
 
--- the lines of the first n words
-abbrev pub linesOf : List ℕ → ℕ → List ℕ
-linesOf s zero = []
-linesOf s (suc n) = linesOf s n ++ lineOf (sectionAddress s n) (sectionWord s n)
+-- the lines of what stands at places, one after the other
+abbrev pub lineHere : Here → List ℕ
+lineHere (Word word address) = lineOf address word
+lineHere End = []
 
--- the answer to the word at a place
-abbrev pub answerAt : List ℕ → ℕ → Decoded
-answerAt s place = decodeOf (sectionWord s place) (sectionAddress s place)
+abbrev pub addLine : List ℕ → Here → List ℕ
+addLine text here = text ++ lineHere here
 
--- how many of the first n words are named, and not refused
-abbrev pub oneNamed : Decoded → ℕ
-oneNamed d = pick (eqb (d .refusal) 0) 1 0
+abbrev pub linesOf : List Here → List ℕ
+linesOf places = foldl addLine [] places
 
-abbrev pub namedOf : List ℕ → ℕ → ℕ
-namedOf s zero = 0
-namedOf s (suc n) = namedOf s n + oneNamed (answerAt s n)
+-- how many of their words are named, and not refused
+abbrev pub namedHere : Here → ℕ
+namedHere (Word word address) = pick (eqb (decodeOf word address .refusal) 0) 1 0
+namedHere End = 0
+
+abbrev pub addNamed : ℕ → Here → ℕ
+addNamed n here = n + namedHere here
+
+abbrev pub namedOf : List Here → ℕ
+namedOf places = foldl addNamed 0 places
 
 -- "6 words 4 named 2 refused"
 unfoldable pub closingOf : ℕ → ℕ → List ℕ
@@ -44,10 +51,13 @@ closingOf count named =
 -- of a section that is accepted
 unfoldable pub listedOf : List ℕ → List ℕ
 listedOf s =
-    headerOf (versionOf s) (baseOf s) (countOf s) ++
-    linesOf s (countOf s) ++
-    closingOf (countOf s) (namedOf s (countOf s))
+    headerOf (openedOf s) ++
+    linesOf (placesOf s) ++
+    closingOf (openedOf s .count) (namedOf (placesOf s))
 
 -- "A refused section prints `refused N` alone"
+abbrev pub refusalLine : ℕ → List ℕ
+refusalLine n = refusedText n ++ bytes "\n"
+
 unfoldable pub listingOf : List ℕ → List ℕ
-listingOf s = pick (eqb (refusalOf s) 0) (listedOf s) (refusedText (refusalOf s) ++ bytes "\n")
+listingOf s = pick (eqb (openedOf s .refusal) 0) (listedOf s) (refusalLine (openedOf s .refusal))

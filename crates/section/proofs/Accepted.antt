@@ -4,11 +4,11 @@ use mathlib.Core.Bool.{Bool, true, false, not}
 use mathlib.Core.List.{List}
 use Prim.Native.Nat.{ℕ, suc, _+_, _-_, _*_, _%_, _^_, _<_, _≤_}
 use native.Mathlib.Omega.{arith}
-use borrow.Author.Tests.{ltb-false, eqb-true, eq-eqb, not-false}
+use borrow.Author.Tests.{ltb-false, eqb-true, eqb-false, eq-eqb, ne-eqb, not-false}
 use lib.Dec.{T, eqb, ltb, ltb→lt}
 use lib.ListN.{length}
 use Rattle.word.specs.Choice.{pick, by-test}
-use Rattle.section.specs.Section.{markedOf, versionOf, baseOf, countOf, refusalOf, checkedOf, sectionAddress}
+use Rattle.section.specs.Section.{markedOf, versionOf, baseOf, countOf, refusalOf, openedOf}
 
 pub record Accepted (s : List ℕ) : Type 0 where
   pub marked : markedOf s ≡ true
@@ -60,30 +60,36 @@ small-refusal s =
     small true n ok h = ltb→lt n 10 ok
     small false n ok h = h
 
-pub checks : (s : List ℕ) → refusalOf s ≡ 0 → checkedOf s ≡ record { refusal = 0; base = baseOf s; count = countOf s }
-checks s ok = simp (eq-eqb (refusalOf s) 0 ok)
+pub opens : (s : List ℕ) → refusalOf s ≡ 0 → openedOf s ≡ record { refusal = 0; version = versionOf s; base = baseOf s; count = countOf s; start = 9 }
+unfolding openedOf
+opens s ok = simp (eq-eqb (refusalOf s) 0 ok)
 
--- `check` accepts exactly if `refusalOf` is 0
-pub same-refusal : (s : List ℕ) → checkedOf s .refusal ≡ refusalOf s
+pub refuses : (s : List ℕ) → (refusalOf s ≡ 0 → ⊥) → openedOf s ≡ record { refusal = refusalOf s; version = 0; base = 0; count = 0; start = 0 }
+unfolding openedOf
+refuses s bad = simp (ne-eqb (refusalOf s) 0 bad)
+
+-- `open` accepts exactly if `refusalOf` is 0
+pub same-refusal : (s : List ℕ) → openedOf s .refusal ≡ refusalOf s
 same-refusal s =
     by-test (eqb (refusalOf s) 0)
-    (λ e. simp e (sym (eqb-true (refusalOf s) 0 e)))
-    (λ e. simp e)
+    (λ e. let ok = eqb-true (refusalOf s) 0 e in rw (opens s ok) (sym ok))
+    (λ e. rw (refuses s (eqb-false (refusalOf s) 0 e)))
 
--- a word stands at a place, which it does in an accepted section alone
-pub record Stands (s : List ℕ) (place : ℕ) : Type 0 where
-  pub whole : refusalOf s ≡ 0
-  pub within : place < countOf s
-  pub read : 9 + 4 * place + 4 ≤ length s
-  pub address : sectionAddress s place < 2 ^ 32
+-- what an opened section holds, refused or not
+pub record Opens (s : List ℕ) : Type 0 where
+  pub version : openedOf s .version ≤ 1
+  pub long : openedOf s .start + 4 * openedOf s .count ≤ length s
+  pub few : openedOf s .count ≤ 4096
+  pub below : openedOf s .base + 4 * openedOf s .count ≤ 2 ^ 32
 
-pub stands : (s : List ℕ) (place : ℕ) → place < checkedOf s .count → Stands s place
-stands s place h = from (eqb (refusalOf s) 0) refl
-  where
-    from : (b : Bool) → eqb (refusalOf s) 0 ≡ b → Stands s place
-    from true e =
-        let whole = eqb-true (refusalOf s) 0 e in
-        let all = accepted s whole in
-        let within : place < countOf s = simp e at h in
-        record { whole = whole; within = within; read = omega arith; address = omega arith }
-    from false e = absurd (let none : place < 0 = simp e at h in let z : ⊥ = omega arith in z)
+pub opened : (s : List ℕ) → Opens s
+opened s =
+    by-test (eqb (refusalOf s) 0)
+    (λ e.
+    let ok = eqb-true (refusalOf s) 0 e in
+    let all = accepted s ok in
+    let is = opens s ok in
+    record { version = rw is (omega (arith, all .version)); long = rw is (omega arith); few = rw is (all .few); below = rw is (all .below) })
+    (λ e.
+    let is = refuses s (eqb-false (refusalOf s) 0 e) in
+    record { version = rw is (omega arith); long = rw is (omega arith); few = rw is (omega arith); below = rw is (omega arith) })

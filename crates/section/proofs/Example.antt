@@ -3,30 +3,29 @@ use mathlib.Core.Path.{_≡_, refl}
 use mathlib.Core.List.{List, [], _∷_, map}
 use Prim.Native.Nat.{ℕ}
 use lib.ListN.{replicate}
-use Rattle.section.specs.Section.{refusalOf, checkedOf, stepOf}
-use Rattle.section.specs.declared.Step.the-variants.{Word, End}
+use Rattle.section.specs.Section.{refusalOf, openedOf, placesOf}
+use Rattle.section.specs.declared.Here.the-variants.{Word}
 
 abbrev listed : List ℕ
 listed =
     0x52 ∷ 0x53 ∷ 0x58 ∷ 0x01 ∷ 0x00 ∷ 0x00 ∷ 0x80 ∷ 0x00 ∷ 0x00 ∷ 0x10 ∷ 0x40 ∷ 0x2d ∷ 0xe9 ∷ 0x0e ∷ 0xf0 ∷ 0xa0 ∷ 0xe1
     ∷ 0x4f ∷ 0xf0 ∷ 0x7f ∷ 0xf5 ∷ 0x5f ∷ 0xf0 ∷ 0x7f ∷ 0xf5 ∷ 0xfe ∷ 0xff ∷ 0xff ∷ 0x0a ∷ 0x00 ∷ 0x00 ∷ 0x00 ∷ 0xef ∷ []
 
-accepts : checkedOf listed ≡ record { refusal = 0; base = 0x8000; count = 6 }
-unfolding refusalOf
-accepts = refl
+opens : openedOf listed ≡ record { refusal = 0; version = 1; base = 0x8000; count = 6; start = 9 }
+unfolding refusalOf openedOf
+opens = refl
 
-finds :
-    map (stepOf listed) (0 ∷ 1 ∷ 2 ∷ 3 ∷ 4 ∷ 5 ∷ 6 ∷ [])
+holds :
+    placesOf listed
     ≡ Word 0xe92d4010 0x8000
     ∷ Word 0xe1a0f00e 0x8004
     ∷ Word 0xf57ff04f 0x8008
     ∷ Word 0xf57ff05f 0x800c
     ∷ Word 0x0afffffe 0x8010
     ∷ Word 0xef000000 0x8014
-    ∷ End
     ∷ []
-unfolding refusalOf
-finds = refl
+unfolding refusalOf openedOf placesOf
+holds = refl
 
 -- a mark's last byte, a version, a base's lowest byte and its others, and so many bytes of words
 abbrev made : ℕ → ℕ → ℕ → ℕ → ℕ → List ℕ

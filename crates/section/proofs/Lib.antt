@@ -1,6 +1,8 @@
 -- Facts of the crate that belong to no one function.
 pub mod Accepted
-pub mod Example
+pub mod Places
+pub mod Fold
 pub mod Reading
+pub mod Example
 pub mod Taken
 pub mod Unique

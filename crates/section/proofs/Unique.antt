@@ -11,22 +11,12 @@ use ghost.Atoms.{Atoms}
 use prog.Memory.{Memory}
 use prog.Routine.{Routine}
 use prog.Wp.{Heap}
-use Rattle.section.proofs.check.Reads as check
-use Rattle.section.proofs.step_at.Reads as step-at
-use Rattle.section.proofs.place_after.Reads as place-after
-use Rattle.section.proofs.new as new
+use Rattle.section.proofs.open.Reads as opening
 use Rattle.section.proofs.next as next
-use Rattle.section.proofs.moved as moved
-use Rattle.section.proofs.first as first
+use Rattle.section.proofs.read as read
 
-pub check-only : (κs : _) (a : _) (r r′ : _) (s s′ : _) → check.Post κs a r s → check.Post κs a r′ s′ → r ≡ r′
-check-only κs a r r′ s s′ p q = p ∙ sym q
-
-pub step-at-only : (κs : _) (a : _) (r r′ : _) (s s′ : _) → step-at.Post κs a r s → step-at.Post κs a r′ s′ → r ≡ r′
-step-at-only κs a r r′ s s′ p q = p ∙ sym q
-
-pub place-after-only : (κs : _) (a : _) (r r′ : _) (s s′ : _) → place-after.Post κs a r s → place-after.Post κs a r′ s′ → r ≡ r′
-place-after-only κs a r r′ s s′ p q = p ∙ sym q
+pub open-only : (κs : _) (a : _) (r r′ : _) (s s′ : _) → opening.Post κs a r s → opening.Post κs a r′ s′ → r ≡ r′
+open-only κs a r r′ s s′ p q = p ∙ sym q
 
 -- The contracts over a reader are read by no `Post`: of them it is said in the logic, for each of its models, that the
 -- clauses of two results give their equality.
@@ -45,14 +35,8 @@ module _ {M : Type 1} (𝓤 : URA M) where
       factI 𝓤 (r ≡ r′) (sep 𝓤 one other) (p ∙ sym q)))
 
   module _ (H : Heap 𝓤) (A : Atoms 𝓤) (mem : Memory → SProp 𝓤) (run : Routine → Fun 𝓤) where
-    pub new-only : Only new.ended (new.clauses 𝓤 H A mem run)
-    new-only κs a g r r′ s s′ = fixed _ r r′
-
     pub next-only : Only next.ended (next.clauses 𝓤 H A mem run)
     next-only κs a g r r′ s s′ = fixed _ r r′
 
-    pub moved-only : Only moved.ended (moved.clauses 𝓤 H A mem run)
-    moved-only κs a g r r′ s s′ = fixed _ r r′
-
-    pub first-only : Only first.ended (first.clauses 𝓤 H A mem run)
-    first-only κs a g r r′ s s′ = fixed _ r r′
+    pub read-only : Only read.ended (read.clauses 𝓤 H A mem run)
+    read-only κs a g r r′ s s′ = fixed _ r r′

@@ -1,16 +1,15 @@
 -- A section of words (01, "Section and listing" and "Refusal numbers").
 use mathlib.Core.Bool.{Bool, not}
-use mathlib.Core.List.{List}
-use Prim.Native.Nat.{ℕ, _+_, _-_, _*_, _/_, _%_, _^_}
+use mathlib.Core.List.{List, [], _∷_, _++_}
+use Prim.Native.Nat.{ℕ, zero, suc, _+_, _-_, _*_, _/_, _%_, _^_}
 use lib.Dec.{eqb, ltb}
-use denote.Ref.{now}
 use lib.ListN.{length, getD}
 use Rattle.word.specs.Bytes.{wordAt}
 use Rattle.word.specs.Choice.{pick, both}
-use Rattle.section.specs.declared.Checked.{Checked}
-use Rattle.section.specs.declared.Reader.{Reader}
+use Rattle.section.specs.declared.Opened.{Opened}
+use Rattle.section.specs.declared.Here.{Here}
+use Rattle.section.specs.declared.Here.the-variants.{Word, End}
 use Rattle.section.specs.declared.Step.{Step}
-use Rattle.section.specs.declared.Step.the-variants.{Word, End}
 
 -- "A section: `RSX`, version (2 bytes), base (4 bytes), words, low byte first"
 abbrev pub markedOf : List ℕ → Bool
@@ -38,28 +37,33 @@ refusalOf s =
     (pick (ltb (2 ^ 32) (baseOf s + 4 * countOf s)) 9
     0))))))
 
--- "each word with base + 4 x place"
-abbrev pub sectionWord : List ℕ → ℕ → ℕ
-sectionWord s place = wordAt s (9 + 4 * place)
-
-abbrev pub sectionAddress : List ℕ → ℕ → ℕ
-sectionAddress s place = baseOf s + 4 * place
-
--- "A refusal returns its number only"
-abbrev pub checkedOf : List ℕ → Checked
-checkedOf s =
+-- what a section is opened to; "A refusal returns its number only"
+unfoldable pub openedOf : List ℕ → Opened
+openedOf s =
     pick (eqb (refusalOf s) 0)
-    (record { refusal = 0; base = baseOf s; count = countOf s })
-    (record { refusal = refusalOf s; base = 0; count = 0 })
+    (record { refusal = 0; version = versionOf s; base = baseOf s; count = countOf s; start = 9 })
+    (record { refusal = refusalOf s; version = 0; base = 0; count = 0; start = 0 })
+
+-- "each word with base + 4 x place"
+abbrev pub wordHere : List ℕ → Opened → ℕ → Here
+wordHere s o place = Word (wordAt s (o .start + 4 * place)) (o .base + 4 * place)
+
+-- what stands at the first n places
+abbrev pub firstPlaces : (ℕ → Here) → ℕ → List Here
+firstPlaces at zero = []
+firstPlaces at (suc n) = firstPlaces at n ++ at n ∷ []
+
+-- a section as a list: what stands at each of its places. One that is refused has none
+unfoldable pub placesOf : List ℕ → List Here
+placesOf s = firstPlaces (wordHere s (openedOf s)) (openedOf s .count)
 
 -- "It gives each word with base + 4 x place, then the end"
-abbrev pub stepOf : List ℕ → ℕ → Step
-stepOf s place = pick (ltb place (checkedOf s .count)) (Word (sectionWord s place) (sectionAddress s place)) End
+abbrev pub hereOf : List ℕ → ℕ → Here
+hereOf s place = getD (placesOf s) place End
 
 -- the place after a place; at the end the same, so that what follows the end is the end
 abbrev pub afterOf : List ℕ → ℕ → ℕ
-afterOf s place = pick (ltb place (checkedOf s .count)) (place + 1) place
+afterOf s place = pick (ltb place (length (placesOf s))) (place + 1) place
 
--- the reader one place on: the same bytes
-abbrev pub movedOf : Reader → Reader
-movedOf r = record { bytes = r .bytes; place = afterOf (now (r .bytes)) (r .place) }
+abbrev pub stepOf : List ℕ → ℕ → Step
+stepOf s place = record { here = hereOf s place; after = afterOf s place }

@@ -4,7 +4,7 @@ ghost use mathlib.Core.Path.{_≡_};
 ghost use mathlib.Core.Bool.{true};
 ghost use Prim.Native.Nat.{_≤_};
 ghost use lib.ListN.{length};
-ghost use Rattle.section.specs.Section.{markedOf, versionOf, baseOf, countOf, refusalOf, checkedOf, stepOf, afterOf, movedOf};
+ghost use Rattle.section.specs.Section.{markedOf, versionOf, baseOf, countOf, refusalOf, openedOf, stepOf};
 
 /// Mark, version and base: the bytes before the words.
 const HEADER: usize = 9;
@@ -27,28 +27,35 @@ const TOO_MANY_WORDS: u8 = 8;
 
 const BAD_BASE: u8 = 9;
 
-/// What the checks of a section say: a refusal's number, or 0 with the base and how many words there are.
-pub struct Checked {
+/// What a section is opened to, once, for all that go through it: a refusal's number alone, or 0 with the version, the base, how many words
+/// there are and where they start.
+pub struct Opened {
     pub refusal: u8,
+    pub version: u16,
     pub base: u32,
     pub count: u32,
+    pub start: usize,
 }
 
-pub fn check(bytes: &[u8]) -> Checked
-    ensures { λ r. ⌜ r ≡ checkedOf (now (bytes .entry)) ⌝ }
+pub fn open(bytes: &[u8]) -> Opened
+    ensures { λ r. ⌜ r ≡ openedOf (now (bytes .entry)) ⌝ }
 {
     let refusal = refusal(bytes);
     if refusal == 0 {
-        Checked {
+        Opened {
             refusal: 0,
+            version: version(bytes),
             base: base(bytes),
             count: count(bytes) as u32,
+            start: HEADER,
         }
     } else {
-        Checked {
+        Opened {
             refusal,
+            version: 0,
             base: 0,
             count: 0,
+            start: 0,
         }
     }
 }
@@ -127,72 +134,59 @@ fn count(bytes: &[u8]) -> usize
     (bytes.len() - HEADER) / 4
 }
 
-/// What a reader finds at its place: a word and its address, or the end.
-pub enum Step {
+/// What stands at a place: a word and its address, or the end.
+pub enum Here {
     Word(u32, u32),
     End,
 }
 
-/// What stands at `place`: a section that is refused has no words.
-pub fn step_at(bytes: &[u8], place: usize) -> Step
+/// What stands at a place, and the place after it. The end comes after itself.
+pub struct Step {
+    pub here: Here,
+    pub after: usize,
+}
+
+fn step_at(bytes: &[u8], opened: Opened, place: usize) -> Step
+    requires { ⌜ opened ≡ openedOf (now bytes) ⌝ }
     ensures { λ r. ⌜ r ≡ stepOf (now (bytes .entry)) place ⌝ }
 {
-    let c = check(bytes);
-    if place < c.count as usize {
-        Step::Word(
-            word_at(bytes, HEADER + 4 * place),
-            c.base + 4 * (place as u32),
-        )
+    if place < opened.count as usize {
+        let word = word_at(bytes, opened.start + 4 * place);
+        Step {
+            here: Here::Word(word, opened.base + 4 * place as u32),
+            after: place + 1,
+        }
     } else {
-        Step::End
+        Step {
+            here: Here::End,
+            after: place,
+        }
     }
 }
 
-/// The place after `place`; the end, behind the last word, is its own.
-pub fn place_after(bytes: &[u8], place: usize) -> usize
-    ensures { λ r. ⌜ r ≡ afterOf (now (bytes .entry)) place ⌝ }
-{
-    let c = check(bytes);
-    if place < c.count as usize {
-        place + 1
-    } else {
-        place
-    }
-}
-
-/// The caller's bytes and a place: the place of the next word.
+/// The caller's bytes, what they were opened to, and a place.
 pub struct Reader<'a> {
     pub bytes: &'a [u8],
+    pub opened: Opened,
     pub place: usize,
 }
 
-pub fn new<'a>(bytes: &'a [u8]) -> Reader<'a>
-    ensures { λ r. ⌜ r ≡ record { bytes = bytes .entry; place = 0 } ⌝ }
-{
-    Reader { bytes, place: 0 }
-}
-
-/// What stands at its place.
+/// What a reader finds at its place, and the place to go on to.
 pub fn next<'a>(r: Reader<'a>) -> Step
+    requires { ⌜ r .opened ≡ openedOf (now (r .bytes)) ⌝ }
     ensures { λ s. ⌜ s ≡ stepOf (now (r .entry .bytes)) (r .entry .place) ⌝ }
 {
-    step_at(r.bytes, r.place)
+    step_at(r.bytes, r.opened, r.place)
 }
 
-/// One place on. At the end it stays there: what follows the end is the end.
-pub fn moved<'a>(r: Reader<'a>) -> Reader<'a>
-    ensures { λ q. ⌜ q ≡ movedOf (r .entry) ⌝ }
+/// What a reader of `bytes` finds at `place`. Callers hold its parts and no reader, since every function over one is proved by hand.
+pub fn read(bytes: &[u8], opened: Opened, place: usize) -> Step
+    requires { ⌜ opened ≡ openedOf (now bytes) ⌝ }
+    ensures { λ r. ⌜ r ≡ stepOf (now (bytes .entry)) place ⌝ }
 {
-    let place = place_after(r.bytes, r.place);
-    Reader {
-        bytes: r.bytes,
+    next(Reader {
+        bytes,
+        opened,
         place,
-    }
-}
-
-/// What a new reader finds.
-pub fn first(bytes: &[u8]) -> Step
-    ensures { λ r. ⌜ r ≡ stepOf (now (bytes .entry)) 0 ⌝ }
-{
-    next(new(bytes))
+    })
 }

@@ -1,7 +1,6 @@
 -- `listed::put_header` meets its contract. Assumes nothing.
 use native.Mathlib.Omega.{arith}
 use lib.ListN.{length-append}
-use Rattle.text.specs.Text.{decimalOf}
 use Rattle.text.proofs.Writing.{_then_}
 use Rattle.listed.specs.Listing.{headerOf}
 use borrow.Author.Needs.{needs}
@@ -12,37 +11,59 @@ slice-aggregate-put : tie.Need-slice-aggregate-put
 slice-aggregate-put c = search needs
 
 put-requires : tie.Need-put-requires
-unfolding headerOf decimalOf
+unfolding headerOf
 put-requires c κs = omega (arith, simp length-append at (c .before .before .before .pre))
 
-put-hex-requires : tie.Need-put-hex-requires
-unfolding headerOf decimalOf
-put-hex-requires c κs = (omega arith, omega (arith, simp length-append at (c .before .before .before .before .before .before .before .pre)))
-
-put-byte-requires : tie.Need-put-byte-requires
-unfolding headerOf decimalOf
-put-byte-requires c κs = omega (arith, simp length-append at (c .before .before .before .before .before .before .before .before .before .before .before .pre))
+cast-put-decimal : tie.Need-cast-put-decimal
+cast-put-decimal c = search needs
 
 put-decimal-requires : tie.Need-put-decimal-requires
-unfolding headerOf decimalOf
-put-decimal-requires c κs = omega (arith, simp length-append at (c .before .before .before .before .before .before .before .before .before .before .before .before .before .before .before .pre))
+unfolding headerOf
+put-decimal-requires c κs = omega (arith, simp length-append at (c .before .before .before .before .before .before .before .before .pre))
+
+put-byte-requires : tie.Need-put-byte-requires
+unfolding headerOf
+put-byte-requires c κs = omega (arith, simp length-append at (c .before .before .before .before .before .before .before .before .before .before .before .before .pre))
+
+put-hex-requires : tie.Need-put-hex-requires
+unfolding headerOf
+put-hex-requires c κs = (omega arith, omega (arith, simp length-append at (c .before .before .before .before .before .before .before .before .before .before .before .before .before .before .before .before .pre)))
 
 put-byte-requires-2 : tie.Need-put-byte-requires-2
-unfolding headerOf decimalOf
-put-byte-requires-2 c κs = omega (arith, simp length-append at (c .before .before .before .before .before .before .before .before .before .before .before .before .before .before .before .before .before .before .before .pre))
+unfolding headerOf
+put-byte-requires-2 c κs = omega (arith, simp length-append at (c .before .before .before .before .before .before .before .before .before .before .before .before .before .before .before .before .before .before .before .before .pre))
+
+cast-put-decimal-2 : tie.Need-cast-put-decimal-2
+cast-put-decimal-2 c = search needs
+
+put-decimal-requires-2 : tie.Need-put-decimal-requires-2
+unfolding headerOf
+put-decimal-requires-2 c κs = omega (arith, simp length-append at (c .before .before .before .before .before .before .before .before .before .before .before .before .before .before .before .before .before .before .before .before .before .before .before .before .before .pre))
+
+put-byte-requires-3 : tie.Need-put-byte-requires-3
+unfolding headerOf
+put-byte-requires-3 c κs = omega (arith, simp length-append at (c .before .before .before .before .before .before .before .before .before .before .before .before .before .before .before .before .before .before .before .before .before .before .before .before .before .before .before .before .before .pre))
 
 same-length : tie.Need-same-length
 same-length c = search needs
 
 returns : tie.Need-returns
-unfolding headerOf decimalOf
+unfolding headerOf
 returns c =
-    let fifth = c .before .before in
+    let seventh = c .before .before in
+    let sixth = seventh .before .before .before .before in
+    let fifth = sixth .before .before .before .before .before in
     let fourth = fifth .before .before .before .before in
     let third = fourth .before .before .before .before in
     let second = third .before .before .before .before in
-    let first = second .before .before .before .before in
-    first .put .ensures then second .put-hex .ensures then third .put-byte .ensures then fourth .put-decimal .ensures then fifth .put-byte2 .ensures
+    let first = second .before .before .before .before .before in
+    first .put .ensures
+    then second .put-decimal .ensures
+    then third .put-byte .ensures
+    then fourth .put-hex .ensures
+    then fifth .put-byte2 .ensures
+    then sixth .put-decimal2 .ensures
+    then seventh .put-byte3 .ensures
 
 pub put-header-spec : {M : Type 1} → statement M
 put-header-spec =
@@ -50,9 +71,13 @@ put-header-spec =
     (tie.spec
     slice-aggregate-put
     put-requires
-    put-hex-requires
-    put-byte-requires
+    cast-put-decimal
     put-decimal-requires
+    put-byte-requires
+    put-hex-requires
     put-byte-requires-2
+    cast-put-decimal-2
+    put-decimal-requires-2
+    put-byte-requires-3
     same-length
     returns)

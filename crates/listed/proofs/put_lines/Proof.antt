@@ -1,62 +1,76 @@
--- `listed::put_lines` meets its contract. The loop's invariant: the lines of the words before `place` are written, and those among
--- them that are named are counted. Assumes nothing.
-use mathlib.Core.Path.{_≡_, refl, ap, _∙_}
-use Prim.Native.Nat.{ℕ, _+_, _-_, _≤_}
-use native.Mathlib.Numerals.{add-one}
+-- `listed::put_lines` meets its contract. The loop's invariant: the lines of the places before `place` are written, and their words that are
+-- named are counted. Assumes nothing.
+use mathlib.Core.Path.{_≡_, refl, sym, _∙_}
+use mathlib.Core.List.{[]}
+use Prim.Native.Nat.{_-_}
 use native.Mathlib.Omega.{arith}
-use lib.ListN.{length, length-append}
+use lib.ListN.{length}
 use Rattle.text.specs.Put.{Put}
 use Rattle.text.proofs.Writing.{none, _then_}
-use Rattle.listed.specs.Listing.{linesOf, answerAt, oneNamed, namedOf}
-use Rattle.listed.proofs.Grow.{grows, few-named}
+use Rattle.section.specs.Section.{placesOf}
+use Rattle.section.proofs.Fold.{upto, before, moves, goes-on, ends}
+use Rattle.listed.specs.Listing.{addLine, addNamed}
+use Rattle.listed.proofs.Grow.{next-fits, named-small}
+use borrow.Author.Needs.{needs}
 use Rattle.listed.proofs.put_lines.Statement.{statement}
 use Rattle.listed.proofs.put_lines.Tie as tie
 
 abbrev Inv-loop : tie.InvT-loop
-Inv-loop out₀ at section base count lines₀ place₀ out lines place =
-    (place ≤ count) × (length out ≡ length out₀) × Put out₀ at (linesOf section place) (lines .at) out × (lines .named ≡ namedOf section place)
+Inv-loop out₀ at section opened lines₀ place₀ out lines place =
+    (length out ≡ length out₀) × Put out₀ at (upto addLine [] section place) (lines .at) out × (lines .named ≡ upto addNamed 0 section place)
 
 abbrev μ-loop : tie.MeasureT-loop
-μ-loop out₀ at section base count lines₀ place₀ out lines place = count - place
+μ-loop out₀ at section opened lines₀ place₀ out lines place = length (placesOf section) - place
 
 loop-holds : tie.Need-loop-holds Inv-loop μ-loop
-loop-holds c = (omega arith, refl, none _ _, refl)
+loop-holds c = (refl, none _ _, refl)
+
+read-requires : tie.Need-read-requires Inv-loop μ-loop
+read-requires c κs = c .before .before .before .pre .0
+
+enum-known-here : tie.Need-enum-known-here Inv-loop μ-loop
+enum-known-here c = search needs
 
 put-next-requires : tie.Need-put-next-requires Inv-loop μ-loop
 put-next-requires c κs =
-    let start = c .before .before .before .before .before in
-    let now = c .before .before .loop in
-    let section = start .args .section .now in
-    let below : now .place + 1 ≤ start .args .count = omega (arith, c .before .loop-test .taken) in (
-      (start .pre .0 .0, start .pre .0 .1, omega (arith, start .pre .0 .2), omega (arith, now .inv .3, few-named section (now .place))),
-      omega (arith, start .pre .1, now .inv .1, now .inv .2 .ends, grows section (now .place) (start .args .count) below),
-    )
-
-add-place : tie.Need-add-place Inv-loop μ-loop
-add-place c = record { fits = omega (arith, c .before .before .before .before .loop-test .taken, c .before .before .before .before .before .before .before .before .fits .count .fits) }
-
-loop-less : tie.Need-loop-less Inv-loop μ-loop
-loop-less c = omega arith
-
-loop-again : tie.Need-loop-again Inv-loop μ-loop
-loop-again c =
-    let section = c .before .before .before .before .before .before .before .before .args .section .now in
+    let start = c .before .before .before .before .before .before .before .before in
     let now = c .before .before .before .before .before .loop in
-    let put = c .before .before .put-next in (
-      omega (arith, c .before .before .before .before .loop-test .taken),
-      put .kept .0 ∙ now .inv .1,
-      rw (add-one (now .place)) (now .inv .2 then put .ensures .0),
-      rw (add-one (now .place)) (put .ensures .1 ∙ ap (λ (n : ℕ). n + oneNamed (answerAt section (now .place))) (now .inv .3)),
+    let found = c .before .before .before .before .read .ensures in
+    let here = c .before .before .here .given .1 in
+    let section = start .args .section .now in (
+      omega (arith, now .inv .2, named-small section (now .place) found here tt),
+      omega (arith, start .pre .1, now .inv .0, now .inv .1 .ends, next-fits section (now .place) found here tt),
     )
+
+enum-told : tie.Need-enum-told Inv-loop μ-loop
+enum-told c = search needs
 
 same-length : tie.Need-same-length Inv-loop μ-loop
-same-length c = c .before .loop .inv .1
+same-length c = c .before .before .before .loop .inv .0
 
 returns : tie.Need-returns Inv-loop μ-loop
 returns c =
-    let now = c .before .loop in
-    let all : now .place ≡ c .before .before .before .before .args .count = omega (arith, now .inv .0, c .loop-test .left) in
-    (rw all at (now .inv .2), rw all at (now .inv .3))
+    let now = c .before .before .before .loop in
+    let found = c .before .before .read .ensures in
+    let end = c .enum-told .given .1 in
+    (rw (ends _ _ found end addLine []) at (now .inv .1), now .inv .2 ∙ ends _ _ found end addNamed 0)
+
+loop-less : tie.Need-loop-less Inv-loop μ-loop
+loop-less c =
+    let found = c .before .before .before .before .before .before .before .read .ensures in
+    let here = c .before .before .before .before .before .here .given .1 in
+    omega (arith, before _ _ found here tt, moves _ _ found here tt)
+
+loop-again : tie.Need-loop-again Inv-loop μ-loop
+loop-again c =
+    let now = c .before .before .before .before .before .before .before .before .loop in
+    let found = c .before .before .before .before .before .before .before .read .ensures in
+    let here = c .before .before .before .before .before .here .given .1 in
+    let put = c .before .before .put-next in (
+      put .kept .0 ∙ now .inv .0,
+      rw (goes-on _ _ found here tt addLine []) (now .inv .1 then put .ensures .0),
+      put .ensures .1 ∙ rw (now .inv .2) (sym (goes-on _ _ found here tt addNamed 0)),
+    )
 
 pub put-lines-spec : {M : Type 1} → statement M
 put-lines-spec =
@@ -65,9 +79,11 @@ put-lines-spec =
     Inv-loop
     μ-loop
     loop-holds
+    read-requires
+    enum-known-here
     put-next-requires
-    add-place
-    loop-less
-    loop-again
+    enum-told
     same-length
-    returns)
+    returns
+    loop-less
+    loop-again)

@@ -1,27 +1,16 @@
 -- `listed::put_listed` meets its contract. Assumes nothing.
-use mathlib.Core.Path.{_≡_, ap}
-use mathlib.Core.List.{List, _++_}
-use Prim.Native.Nat.{ℕ, _+_}
+use mathlib.Core.Path.{ap}
+use Prim.Native.Nat.{ℕ}
 use native.Mathlib.Omega.{arith}
-use lib.ListN.{length, length-append}
-use Rattle.section.specs.Section.{baseOf, countOf, refusalOf}
-use Rattle.section.proofs.Accepted.{accepted}
+use lib.ListN.{length}
 use Rattle.text.proofs.Writing.{_then_}
-use Rattle.listed.specs.Listing.{headerOf, linesOf, namedOf, closingOf, listedOf}
-use Rattle.listed.proofs.Grow.{few-named}
+use Rattle.section.specs.declared.Opened.{Opened}
+use Rattle.listed.specs.Listing.{closingOf}
+use Rattle.listed.proofs.Grow.{count-named}
+use Rattle.listed.proofs.Laid.{laid, sizes}
 use borrow.Author.Needs.{needs}
 use Rattle.listed.proofs.put_listed.Statement.{statement}
 use Rattle.listed.proofs.put_listed.Tie as tie
-
--- the listing, with the numbers that the code has at hand
-laid : (s : List ℕ) {base count : ℕ} → (refusalOf s ≡ 0) × (base ≡ baseOf s) × (count ≡ countOf s)
-    → listedOf s ≡ headerOf 1 base count ++ linesOf s count ++ closingOf count (namedOf s count)
-unfolding listedOf
-laid s given = rw (accepted s (given .0) .version, given .1, given .2)
-
-sizes : (s : List ℕ) {base count : ℕ} → (refusalOf s ≡ 0) × (base ≡ baseOf s) × (count ≡ countOf s)
-    → length (listedOf s) ≡ length (headerOf 1 base count) + length (linesOf s count) + length (closingOf count (namedOf s count))
-sizes s given = rw (laid s given) (simp length-append)
 
 put-header-requires : tie.Need-put-header-requires
 put-header-requires c κs =
@@ -41,10 +30,10 @@ put-closing-requires c κs =
     let lines = c .before .before .before .put-lines in
     let section = start .args .section .now in
     let named = lines .ensures .1 in (
-      omega (arith, named, few-named section (start .args .count)),
+      omega (arith, named, count-named section, ap (λ (o : Opened). o .count) (start .pre .0)),
       omega (
         arith,
-        ap (λ (n : ℕ). length (closingOf (start .args .count) n)) named,
+        ap (λ (n : ℕ). length (closingOf (start .args .opened .count) n)) named,
         start .pre .1,
         sizes section (start .pre .0),
         header .ensures .ends,

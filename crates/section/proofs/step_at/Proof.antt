@@ -1,13 +1,40 @@
 -- `section::step_at` meets its contract. Assumes nothing.
-use borrow.Author.Tests.{lt-ltb, le-ltb, eq-eqb}
+use mathlib.Core.Path.{_≡_, ap, sym}
+use mathlib.Core.List.{List}
+use Prim.Native.Nat.{ℕ, _+_, _*_, _^_, _<_, _≤_}
 use native.Mathlib.Omega.{arith}
-use Rattle.section.proofs.Accepted.{stands}
 use borrow.Author.Needs.{needs}
+use borrow.Author.Tests.{lt-ltb, le-ltb}
+use lib.ListN.{length}
+use Rattle.section.specs.Section.{openedOf, wordHere, placesOf, stepOf}
+use Rattle.section.specs.declared.Here.the-variants.{End}
+use Rattle.section.specs.declared.Opened.{Opened}
+use Rattle.section.proofs.Accepted.{opened}
+use Rattle.section.proofs.Places.{how-many, before-end, at-end}
 use Rattle.section.proofs.step_at.Statement.{statement}
 use Rattle.section.proofs.step_at.Tie as tie
 
-check-requires : tie.Need-check-requires
-check-requires c κs = search needs
+-- a place of a section, before its end and not
+module _ (s : List ℕ) (o : Opened) (is : o ≡ openedOf s) (place : ℕ) where
+  count : length (placesOf s) ≡ o .count
+  count = rw is (how-many s)
+
+  module _ (h : place < o .count) where
+    held : o .start + 4 * place + 4 ≤ length s
+    held = omega (arith, opened s .long, ap (λ (x : Opened). x .start) is, ap (λ (x : Opened). x .count) is)
+
+    addressed : o .base + 4 * place < 2 ^ 32
+    addressed = omega (arith, opened s .below, ap (λ (x : Opened). x .base) is, ap (λ (x : Opened). x .count) is)
+
+    goes-on : stepOf s place ≡ record { here = wordHere s o place; after = place + 1 }
+    goes-on =
+        let before : place < length (placesOf s) = omega (arith, count) in
+        simp (before-end s before, lt-ltb place (length (placesOf s)) before, is)
+
+  stops : o .count ≤ place → stepOf s place ≡ record { here = End; after = place }
+  stops h =
+      let over : length (placesOf s) ≤ place = omega (arith, count) in
+      simp (at-end s over, le-ltb place (length (placesOf s)) over)
 
 cast-if1 : tie.Need-cast-if1
 cast-if1 c = search needs
@@ -16,35 +43,45 @@ mul-word-at : tie.Need-mul-word-at
 mul-word-at c = search needs
 
 add-word-at : tie.Need-add-word-at
-add-word-at c = search needs
+add-word-at c =
+    let start = c .before .before .before .before in
+    record { fits = omega (arith, held (start .args .bytes .now) (start .args .opened) (start .pre) (start .args .place) (c .before .if1 .taken)) }
 
 word-at-requires : tie.Need-word-at-requires
-word-at-requires c κs = omega (arith, stands _ _ (rw (c .before .before .check .ensures) at (c .if1 .taken)) .read)
+word-at-requires c κs =
+    let start = c .before .before .before .before in
+    held (start .args .bytes .now) (start .args .opened) (start .pre) (start .args .place) (c .before .if1 .taken)
 
 cast-t10 : tie.Need-cast-t10
 cast-t10 c = search needs
 
 mul-t11 : tie.Need-mul-t11
-mul-t11 c = omega (arith, stands _ _ (rw (c .before .before .before .check .ensures) at (c .before .if1 .taken)) .address)
+mul-t11 c =
+    let start = c .before .before .before .before .before in
+    record { fits = omega (arith, addressed (start .args .bytes .now) (start .args .opened) (start .pre) (start .args .place) (c .before .before .if1 .taken)) }
 
 add-t12 : tie.Need-add-t12
 add-t12 c =
-    let h = stands _ _ (rw (c .before .before .before .before .check .ensures) at (c .before .before .if1 .taken)) in
-    simp (c .before .before .before .before .check .ensures, eq-eqb _ _ (h .whole)) (omega (arith, h .address))
+    let start = c .before .before .before .before .before .before in
+    record { fits = addressed (start .args .bytes .now) (start .args .opened) (start .pre) (start .args .place) (c .before .before .before .if1 .taken) }
+
+add-t8 : tie.Need-add-t8
+add-t8 c = search needs
 
 returns : tie.Need-returns
 returns c =
-    let h = stands _ _ (rw (c .before .before .before .before .check .ensures) at (c .before .before .if1 .taken)) in
-    simp (c .before .word-at .ensures, c .before .before .before .before .check .ensures, eq-eqb _ _ (h .whole), lt-ltb _ _ (h .within))
+    let start = c .before .before .before .before .before .before in
+    rw (goes-on (start .args .bytes .now) (start .args .opened) (start .pre) (start .args .place) (c .before .before .before .if1 .taken), ← (c .before .word-at .ensures))
 
 returns-2 : tie.Need-returns-2
-returns-2 c = simp (← (c .before .before .check .ensures), le-ltb _ _ (c .if1 .left))
+returns-2 c =
+    let start = c .before .before .before in
+    sym (stops (start .args .bytes .now) (start .args .opened) (start .pre) (start .args .place) (c .if1 .left))
 
 pub step-at-spec : {M : Type 1} → statement M
 step-at-spec =
     tie.close
     (tie.spec
-    check-requires
     cast-if1
     mul-word-at
     add-word-at
@@ -52,5 +89,6 @@ step-at-spec =
     cast-t10
     mul-t11
     add-t12
+    add-t8
     returns
     returns-2)

@@ -1,0 +1,24 @@
+-- `listed::has_room` meets its contract. Assumes nothing.
+use mathlib.Core.Path.{ap, sym}
+use Prim.Native.Nat.{ℕ}
+use native.Mathlib.Omega.{arith}
+use borrow.Author.Tests.{le-leb}
+use lib.Dec.{leb}
+use Rattle.listed.proofs.Enough.{listing-fits}
+use borrow.Author.Needs.{needs}
+use Rattle.listed.proofs.has_room.Statement.{statement}
+use Rattle.listed.proofs.has_room.Tie as tie
+
+returns : tie.Need-returns
+returns c =
+    let start = c .before .before in
+    sym (le-leb _ (start .args .room) (omega (arith, listing-fits (start .args .section .now))))
+
+listing-len-requires : tie.Need-listing-len-requires
+listing-len-requires c κs = search needs
+
+returns-2 : tie.Need-returns-2
+returns-2 c = ap (λ (n : ℕ). leb n (c .before .before .before .args .room)) (c .listing-len .ensures)
+
+pub has-room-spec : {M : Type 1} → statement M
+has-room-spec = tie.close (tie.spec returns listing-len-requires returns-2)

@@ -1,0 +1,38 @@
+-- `listed::listing_len` meets its contract. Assumes nothing.
+use native.Mathlib.Omega.{arith}
+use Rattle.listed.proofs.Enough.{refusal-fits}
+use Rattle.listed.proofs.Laid.{accepts, refuses}
+use borrow.Author.Needs.{needs}
+use Rattle.listed.proofs.listing_len.Statement.{statement}
+use Rattle.listed.proofs.listing_len.Tie as tie
+
+listed-len-requires : tie.Need-listed-len-requires
+listed-len-requires c κs = search needs
+
+slice-aggregate-put-refusal : tie.Need-slice-aggregate-put-refusal
+slice-aggregate-put-refusal c = search needs
+
+put-refusal-requires : tie.Need-put-refusal-requires
+put-refusal-requires c κs =
+    let start = c .before .before .before .before in
+    rw (start .pre) (omega (arith, refusal-fits (start .args .section .now)))
+
+returns : tie.Need-returns
+returns c =
+    let start = c .before .before .before .before in
+    rw (accepts (start .args .section .now) (start .pre) (c .before .if1 .taken)) (c .listed-len .ensures)
+
+returns-2 : tie.Need-returns-2
+returns-2 c =
+    let start = c .before .before .before .before .before .before in
+    rw (refuses (start .args .section .now) (start .pre) (c .before .before .before .if1 .left)) (omega (arith, c .before .put-refusal .ensures .ends))
+
+pub listing-len-spec : {M : Type 1} → statement M
+listing-len-spec =
+    tie.close
+    (tie.spec
+    listed-len-requires
+    slice-aggregate-put-refusal
+    put-refusal-requires
+    returns
+    returns-2)
