@@ -24,8 +24,11 @@ ghost use Rattle.text.specs.Put.{Room, Put};
 ghost use Rattle.section.specs.Section.{openedOf, placesOf};
 ghost use Rattle.listed.specs.Listing.{headerOf, lineHere, linesOf, namedHere, namedOf, closingOf, listedOf, refusalLine, listingOf};
 
+/// The lines around those of the words take no more bytes.
+const AROUND: usize = 64;
+
 /// A buffer of so many bytes takes the listing of every section.
-pub const ENOUGH: usize = 393_280;
+pub const ENOUGH: usize = AROUND + 4096 * MOST;
 
 /// Writes the listing of a section to the start of `out`, once it is known to fit.
 pub fn listing(section: &[u8], out: &mut [u8]) -> Written
@@ -46,12 +49,13 @@ pub fn listing(section: &[u8], out: &mut [u8]) -> Written
     }
 }
 
-/// Whether the listing fits `room` bytes. Its length is worked out where that decides.
+/// Whether the listing fits `room` bytes. Its length is worked out only where so many words might not.
 fn has_room(section: &[u8], opened: Opened, room: usize) -> bool
     requires { ⌜ opened ≡ openedOf (now section) ⌝ }
     ensures { λ r. ⌜ r ≡ leb (length (listingOf (now (section .entry)))) room ⌝ }
 {
-    if ENOUGH <= room {
+    let most = AROUND + MOST * opened.count as usize;
+    if most <= room {
         return true;
     }
     listing_len(section, opened) <= room

@@ -3,9 +3,10 @@ use mathlib.Core.Path.{_≡_, ap}
 use Prim.Native.Nat.{ℕ, _+_}
 use native.Mathlib.Omega.{arith}
 use lib.ListN.{length}
+use Rattle.section.proofs.Accepted.{opened}
 use Rattle.listed.specs.Listing.{closingOf, listedOf}
 use Rattle.listed.proofs.Grow.{count-named}
-use Rattle.listed.proofs.Enough.{header-fits, closing-fits, listed-fits}
+use Rattle.listed.proofs.Enough.{header-fits, closing-fits, listed-short}
 use Rattle.listed.proofs.Laid.{sizes}
 use borrow.Author.Needs.{needs}
 use Rattle.listed.proofs.listed_len.Statement.{statement}
@@ -48,10 +49,10 @@ put-closing-requires c κs =
     (count-named section, omega (arith, closing-fits section, c .before .before .before .put-header .kept .0))
 
 add-result : tie.Need-add-result
-add-result c = record { fits = omega (arith, sum c, listed-fits (c .before .before .before .before .before .before .before .before .before .args .section .now)) }
+add-result c = record { fits = omega (arith, sum c, listed-short (c .before .before .before .before .before .before .before .before .before .args .section .now), opened (c .before .before .before .before .before .before .before .before .before .args .section .now) .few) }
 
 add-result-2 : tie.Need-add-result-2
-add-result-2 c = record { fits = omega (arith, sum c, listed-fits (c .before .before .before .before .before .before .before .before .before .args .section .now)) }
+add-result-2 c = record { fits = omega (arith, sum c, listed-short (c .before .before .before .before .before .before .before .before .before .args .section .now), opened (c .before .before .before .before .before .before .before .before .before .args .section .now) .few) }
 
 returns : tie.Need-returns
 returns c = sum c
