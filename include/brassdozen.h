@@ -2,7 +2,7 @@
    docs/LIBRARY.md says how to build the library, and where its proof ends.
 
    Every function returns, for every word, address and content of what it is lent, and does nothing but write to its `out` or `row`. It keeps
-   nothing, takes nothing but stack (brassdozen_listing says how much) and may be called by several threads at once.
+   nothing, takes nothing but a little stack and may be called by several threads at once.
 
    What the caller owes: a pointer is aligned for its type and not null, even where its length is 0; so many elements behind it are readable,
    and behind a pointer that is not const writable; and nothing else touches those, the other argument of the same call neither, until the
@@ -77,7 +77,7 @@ uint64_t brassdozen_line(uint64_t address, uint32_t word, uint8_t *out, size_t l
 
 /* Writes the listing of a section to the start of `out`, and gives its length, at most 393,280; or 10, exactly if it is longer than `length`.
    A section that is not accepted has a listing of one line, "refused N". A refusal changes no byte of `out`, and nothing changes one after
-   the listing. Where `length` is below 393,280, the call has a buffer of that size of its own on the stack. */
+   the listing. Where `length` is below 64 and 96 for each word, the section is gone through twice, for the listing's length and to write it. */
 uint64_t brassdozen_listing(const uint8_t *section, size_t bytes, uint8_t *out, size_t length);
 
 #ifdef __cplusplus
