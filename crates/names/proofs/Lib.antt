@@ -1,4 +1,3 @@
 -- Facts of the crate that belong to no one function.
-pub mod Rows
 pub mod Table
 pub mod Unique

@@ -117,12 +117,15 @@ pub fn put_signed(out: &mut [u8], at: usize, v: i64) -> usize
     }
 }
 
+/// The digits of base sixteen, by what they stand for.
+const HEX: [u8; 16] = *b"0123456789abcdef";
+
 /// The digit that stands for `n` in base sixteen.
 fn hex_digit(n: u8) -> u8
     requires { ⌜ n < 16 ⌝ }
     ensures { λ r. ⌜ r ≡ hexDigit n ⌝ }
 {
-    if n < 10 { b'0' + n } else { b'a' - 10 + n }
+    HEX[n as usize]
 }
 
 /// The lowest `digits` digits of `n` in base sixteen.

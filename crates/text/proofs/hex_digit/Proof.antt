@@ -1,23 +1,17 @@
--- `text::hex_digit` meets its contract. Assumes nothing.
+-- `text::hex_digit` meets its contract: the table has the digits. Assumes nothing.
 use borrow.Author.Needs.{needs}
-use borrow.Author.Tests.{lt-ltb, le-ltb}
+use lib.Dec.{eqb, eqb→eq}
+use lib.ListN.{getD}
+use Rattle.word.specs.Every.{at-each}
+use Rattle.text.specs.Text.{bytes, hexDigit}
 use Rattle.text.proofs.hex_digit.Statement.{statement}
 use Rattle.text.proofs.hex_digit.Tie as tie
 
-add-result : tie.Need-add-result
-add-result c = search needs
-
-sub-result : tie.Need-sub-result
-sub-result c = search needs
-
-add-result-2 : tie.Need-add-result-2
-add-result-2 c = search needs
+array-read-result : tie.Need-array-read-result
+array-read-result c = search needs
 
 returns : tie.Need-returns
-returns c = simp (lt-ltb _ _ (c .if1 .taken))
-
-returns-2 : tie.Need-returns-2
-returns-2 c = simp (le-ltb _ _ (c .if1 .left))
+returns c = eqb→eq _ (hexDigit (c .args .n)) (at-each (λ n. eqb (getD (bytes "0123456789abcdef") n 0) (hexDigit n)) 16 tt (c .args .n) (c .pre))
 
 pub hex-digit-spec : {M : Type 1} → statement M
-hex-digit-spec = tie.close (tie.spec add-result sub-result add-result-2 returns returns-2)
+hex-digit-spec = tie.close (tie.spec array-read-result returns)
