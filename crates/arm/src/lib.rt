@@ -36,7 +36,7 @@ pub const NO_ROW: u8 = 3;
 pub fn reg(n: u32) -> Reg
     ensures { λ r. ⌜ r ≡ record { 0 = n % 16 } ⌝ }
 {
-    Reg((n % 16) as u8)
+    Reg::new((n % 16) as u8)
 }
 
 /// The register that the four bits of `w` from `lo` on name.
@@ -59,7 +59,7 @@ pub fn op_at(w: u32, lo: u32) -> Operand
 pub fn cond_of(w: u32) -> Cond
     ensures { λ r. ⌜ r ≡ condOf w ⌝ }
 {
-    Cond(((w >> 28) % 16) as u8)
+    Cond::new(((w >> 28) % 16) as u8)
 }
 
 /// A count that is not negative.
@@ -87,8 +87,7 @@ pub fn status_mask(w: u32) -> Operand
 pub fn pc_write(w: u32) -> Flow
     ensures { λ r. ⌜ r ≡ pcFlow w ⌝ }
 {
-    let rd = bits(w, 15, 12);
-    if rd == 15 {
+    if reg_at(w, RD).is_pc() {
         Flow::IndirectBranch
     } else {
         Flow::Next

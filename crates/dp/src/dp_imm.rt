@@ -6,6 +6,7 @@ use arm::RN;
 use arm::at;
 use arm::op_at;
 use arm::pc_write;
+use arm::reg_at;
 use arm::status_mask;
 use imm::so_imm_ops;
 use insn::Decoded;
@@ -58,7 +59,7 @@ pub fn is_hint(w: u32) -> bool
 {
     let rn = bits(w, 19, 16);
     let rd = bits(w, 15, 12);
-    if rn == 0 { rd == 15 } else { false }
+    if rn == 0b0000 { rd == 0b1111 } else { false }
 }
 
 fn hint(w: u32, addr: u64) -> Decoded
@@ -117,8 +118,7 @@ fn operation(w: u32, addr: u64) -> Decoded
 fn is_to_pc(w: u32) -> bool
     ensures { λ r. ⌜ r ≡ toPc w ⌝ }
 {
-    let rd = bits(w, 15, 12);
-    rd == 15
+    reg_at(w, RD).is_pc()
 }
 
 /// The immediate of an operation, from operand place `n` on.

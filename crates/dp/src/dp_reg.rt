@@ -13,6 +13,7 @@ use arm::is_plain;
 use arm::is_rrx;
 use arm::op_at;
 use arm::pc_write;
+use arm::reg_at;
 use arm::shift_by_reg;
 use arm::shifted;
 use arm::three;
@@ -80,10 +81,10 @@ fn mov(w: u32, addr: u64) -> Decoded
 fn mov_flow(w: u32) -> Flow
     ensures { λ r. ⌜ r ≡ movFlow w ⌝ }
 {
-    let rd = bits(w, 15, 12);
-    let rm = bits(w, 3, 0);
-    if rd == 15 {
-        if rm == 14 {
+    let rd = reg_at(w, RD);
+    let rm = reg_at(w, RM);
+    if rd.is_pc() {
+        if rm.is_lr() {
             Flow::Return
         } else {
             Flow::IndirectBranch

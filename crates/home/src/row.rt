@@ -1,5 +1,7 @@
 //! The row of the table of ignored bits that a word belongs to, group by group.
 use a32::is_control;
+use arm::RD;
+use arm::reg_at;
 use dp::dp_imm::is_hint;
 use transfer::unconditional::is_barrier;
 use word::bit;
@@ -125,14 +127,14 @@ fn exchange_row(w: u32) -> usize
     if op == 0b01 { EXCHANGES } else { CLZ }
 }
 
-/// A compare with 15 in the place of Rd is told by its flow, so it keeps it.
+/// A compare with `pc` in the place of Rd is told by its flow, so it keeps it.
 fn dp_reg_row(w: u32) -> usize
     ensures { λ r. ⌜ r ≡ dpRegRow w ⌝ }
 {
     let compare = bits(w, 24, 23);
-    let rd = bits(w, 15, 12);
+    let rd = reg_at(w, RD);
     if compare == 0b10 {
-        if rd == 15 {
+        if rd.is_pc() {
             return ALL_READ;
         }
         return COMPARES;

@@ -2,7 +2,11 @@
 -- Assumes nothing.
 use mathlib.Core.Path.{_≡_, _∙_, sym}
 use Rattle.insn.proofs.Reg.new.Reads as reg-new
+use Rattle.insn.proofs.Reg.is_sp.Reads as is-sp
+use Rattle.insn.proofs.Reg.is_lr.Reads as is-lr
+use Rattle.insn.proofs.Reg.is_pc.Reads as is-pc
 use Rattle.insn.proofs.Cond.new.Reads as cond-new
+use Rattle.insn.proofs.Cond.is_al.Reads as is-al
 use Rattle.insn.proofs.Shift.number.Reads as shift-number
 use Rattle.insn.proofs.Status.number.Reads as status-number
 use Rattle.insn.proofs.AddrMode.number.Reads as addrmode-number
@@ -18,8 +22,20 @@ use Rattle.insn.proofs.refuse.Reads as refuse
 pub reg-new-only : (κs : _) (a : _) (r r′ : _) (s s′ : _) → reg-new.Post κs a r s → reg-new.Post κs a r′ s′ → r ≡ r′
 reg-new-only κs a r r′ s s′ p q = p ∙ sym q
 
+pub is-sp-only : (κs : _) (a : _) (r r′ : _) (s s′ : _) → is-sp.Post κs a r s → is-sp.Post κs a r′ s′ → r ≡ r′
+is-sp-only κs a r r′ s s′ p q = p ∙ sym q
+
+pub is-lr-only : (κs : _) (a : _) (r r′ : _) (s s′ : _) → is-lr.Post κs a r s → is-lr.Post κs a r′ s′ → r ≡ r′
+is-lr-only κs a r r′ s s′ p q = p ∙ sym q
+
+pub is-pc-only : (κs : _) (a : _) (r r′ : _) (s s′ : _) → is-pc.Post κs a r s → is-pc.Post κs a r′ s′ → r ≡ r′
+is-pc-only κs a r r′ s s′ p q = p ∙ sym q
+
 pub cond-new-only : (κs : _) (a : _) (r r′ : _) (s s′ : _) → cond-new.Post κs a r s → cond-new.Post κs a r′ s′ → r ≡ r′
 cond-new-only κs a r r′ s s′ p q = p ∙ sym q
+
+pub is-al-only : (κs : _) (a : _) (r r′ : _) (s s′ : _) → is-al.Post κs a r s → is-al.Post κs a r′ s′ → r ≡ r′
+is-al-only κs a r r′ s s′ p q = p ∙ sym q
 
 pub shift-number-only : (κs : _) (a : _) (r r′ : _) (s s′ : _) → shift-number.Post κs a r s → shift-number.Post κs a r′ s′ → r ≡ r′
 shift-number-only κs a r r′ s s′ p q = p ∙ sym q

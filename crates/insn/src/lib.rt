@@ -1,7 +1,9 @@
 //! The instruction value: what the decoder answers.
 ghost use mathlib.Core.Path.{_≡_};
 ghost use Prim.Native.Nat.{_<_};
+ghost use lib.Dec.{eqb};
 ghost use Rattle.insn.specs.Answer.{empty, filled, accepted, refused};
+ghost use Rattle.insn.specs.Constants.{SP, LR, PC, AL};
 ghost use Rattle.insn.specs.Memory.{baseDisp};
 ghost use Rattle.insn.specs.Numbers.{shiftNumber, statusNumber, modeNumber, operandNumber, flowNumber, flowTarget};
 
@@ -11,16 +13,37 @@ pub mod name;
 pub struct Reg(pub u8);
 
 impl Reg {
+    /// The stack pointer.
     pub const SP: Reg = Reg(13);
 
+    /// The link register.
     pub const LR: Reg = Reg(14);
 
+    /// The program counter.
     pub const PC: Reg = Reg(15);
 
     pub fn new(n: u8) -> Reg
         ensures { λ r. ⌜ r ≡ record { 0 = n } ⌝ }
     {
         Reg(n)
+    }
+
+    pub fn is_sp(self) -> bool
+        ensures { λ r. ⌜ r ≡ eqb (self .0) (SP .0) ⌝ }
+    {
+        self.0 == Reg::SP.0
+    }
+
+    pub fn is_lr(self) -> bool
+        ensures { λ r. ⌜ r ≡ eqb (self .0) (LR .0) ⌝ }
+    {
+        self.0 == Reg::LR.0
+    }
+
+    pub fn is_pc(self) -> bool
+        ensures { λ r. ⌜ r ≡ eqb (self .0) (PC .0) ⌝ }
+    {
+        self.0 == Reg::PC.0
     }
 }
 
@@ -35,6 +58,12 @@ impl Cond {
         ensures { λ r. ⌜ r ≡ record { 0 = n } ⌝ }
     {
         Cond(n)
+    }
+
+    pub fn is_al(self) -> bool
+        ensures { λ r. ⌜ r ≡ eqb (self .0) (AL .0) ⌝ }
+    {
+        self.0 == Cond::AL.0
     }
 }
 

@@ -279,35 +279,13 @@ pub const DMB: u16 = 131;
 
 pub const ISB: u16 = 132;
 
-// halfword multiplies: by 22:21, then bit 5, then bit 6.
+// halfword multiplies: by 22:21, then bit 5, then bit 6. Each is the first of its halves, and the others have the numbers after it.
 pub const SMLABB: u16 = 133;
-
-pub const SMLABT: u16 = 134;
-
-pub const SMLATB: u16 = 135;
-
-pub const SMLATT: u16 = 136;
 
 pub const SMLAWB: u16 = 137;
 
-pub const SMLAWT: u16 = 138;
-
 pub const SMULWB: u16 = 139;
-
-pub const SMULWT: u16 = 140;
 
 pub const SMLALBB: u16 = 141;
 
-pub const SMLALBT: u16 = 142;
-
-pub const SMLALTB: u16 = 143;
-
-pub const SMLALTT: u16 = 144;
-
 pub const SMULBB: u16 = 145;
-
-pub const SMULBT: u16 = 146;
-
-pub const SMULTB: u16 = 147;
-
-pub const SMULTT: u16 = 148;

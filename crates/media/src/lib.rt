@@ -7,6 +7,7 @@ use arm::RS;
 use arm::at;
 use arm::count;
 use arm::op_at;
+use arm::reg_at;
 use arm::shift_amount;
 use arm::three;
 use arm::two;
@@ -124,8 +125,7 @@ fn bf(w: u32, addr: u64) -> Decoded
 fn bf_width(w: u32, addr: u64, lsb: u32, width: u32) -> Decoded
     ensures { λ r. ⌜ r ≡ bfWidthOf w addr lsb width ⌝ }
 {
-    let rm = bits(w, 3, 0);
-    if rm == 15 {
+    if reg_at(w, RM).is_pc() {
         at(w, addr, name::BFC, Flow::Next).with(0, op_at(w, RD))
             .with(1, count(lsb))
             .with(2, count(width))
@@ -205,14 +205,14 @@ fn rev_or_extend(w: u32, addr: u64, rev1: u16, rev5: u16, plain: u16, adding: u1
     }
 }
 
-/// A reversal: the two register fields it does not read must be 15.
+/// A reversal: the two register fields that it does not read must be ones.
 fn rev(w: u32, addr: u64, name: u16) -> Decoded
     ensures { λ r. ⌜ r ≡ revOf w addr name ⌝ }
 {
     let rn = bits(w, 19, 16);
     let rs = bits(w, 11, 8);
-    if rn == 15 {
-        if rs == 15 {
+    if rn == 0b1111 {
+        if rs == 0b1111 {
             two(w, addr, name, Flow::Next, RD, RM)
         } else {
             refuse(NO_ROW)
@@ -243,8 +243,7 @@ fn extend(w: u32, addr: u64, plain: u16, adding: u16) -> Decoded
 fn extend_by(w: u32, addr: u64, plain: u16, adding: u16) -> Decoded
     ensures { λ r. ⌜ r ≡ extendByOf w addr plain adding ⌝ }
 {
-    let rn = bits(w, 19, 16);
-    if rn == 15 {
+    if reg_at(w, RN).is_pc() {
         at(w, addr, plain, Flow::Next).with(0, op_at(w, RD))
             .with(1, op_at(w, RM))
             .with(2, rotate(w))

@@ -6,6 +6,7 @@ use arm::RN;
 use arm::at;
 use arm::one;
 use arm::op_at;
+use arm::reg_at;
 use arm::status_mask;
 use arm::three;
 use arm::two;
@@ -96,8 +97,7 @@ fn bx_clz(w: u32, addr: u64) -> Decoded
 fn return_flow(w: u32) -> Flow
     ensures { λ r. ⌜ r ≡ returnFlow w ⌝ }
 {
-    let rm = bits(w, 3, 0);
-    if rm == 14 {
+    if reg_at(w, RM).is_lr() {
         Flow::Return
     } else {
         Flow::IndirectBranch

@@ -47,10 +47,10 @@ fn listed(w: u32, addr: u64) -> Decoded
 fn is_stack(w: u32) -> bool
     ensures { λ r. ⌜ r ≡ stackOf w ⌝ }
 {
-    let rn = bits(w, 19, 16);
+    let rn = reg_at(w, RN);
     let wb = bit(w, 21);
     let list = bits(w, 15, 0);
-    if rn == 13 {
+    if rn.is_sp() {
         if wb == 1 {
             2 <= u32::count_ones(list)
         } else {
@@ -150,14 +150,14 @@ fn flow(w: u32) -> Flow
 {
     let l = bit(w, 20);
     let pc = bit(w, 15);
-    let rn = bits(w, 19, 16);
+    let rn = reg_at(w, RN);
     if l == 0 {
         return Flow::Next;
     }
     if pc == 0 {
         return Flow::Next;
     }
-    if rn == 13 {
+    if rn.is_sp() {
         Flow::Return
     } else {
         Flow::IndirectBranch

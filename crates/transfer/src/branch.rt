@@ -1,5 +1,6 @@
 //! Branches to an address.
 use arm::at;
+use arm::cond_of;
 use insn::Decoded;
 use insn::Flow;
 use insn::Operand;
@@ -17,11 +18,11 @@ pub fn branch(w: u32, addr: u64) -> Decoded
 {
     let to = branch_target(w, addr, 0);
     let link = bit(w, 24);
-    let cond = bits(w, 31, 28);
+    let cond = cond_of(w);
     if link == 1 {
         return going(w, addr, name::BL, Flow::Call(to), to);
     }
-    if cond == 14 {
+    if cond.is_al() {
         going(w, addr, name::B, Flow::Branch(to), to)
     } else {
         going(w, addr, name::B, Flow::CondBranch(to), to)

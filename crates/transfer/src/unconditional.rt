@@ -79,7 +79,7 @@ pub fn is_preload(w: u32) -> bool
     let rd = bits(w, 15, 12);
     let kind = bits(w, 21, 20);
     if op == 0b0101 {
-        if rd == 15 { kind == 0b01 } else { false }
+        if rd == 0b1111 { kind == 0b01 } else { false }
     } else {
         false
     }

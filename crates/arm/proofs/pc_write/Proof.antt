@@ -1,17 +1,19 @@
 -- `arm::pc_write` meets its contract. Assumes nothing.
 use borrow.Author.Needs.{needs}
-use borrow.Author.Tests.{ne-eqb}
 use Rattle.arm.proofs.pc_write.Statement.{statement}
 use Rattle.arm.proofs.pc_write.Tie as tie
 
-bits-requires : tie.Need-bits-requires
-bits-requires c κs = search needs
+reg-at-requires : tie.Need-reg-at-requires
+reg-at-requires c κs = search needs
+
+is-pc-requires : tie.Need-is-pc-requires
+is-pc-requires c κs = search needs
 
 returns : tie.Need-returns
-returns c = simp (c .if1 .taken, ← (c .before .bits .ensures))
+returns c = simp (c .if1 .taken, ← (rw (c .before .before .reg-at .ensures) at (c .before .is-pc .ensures)))
 
 returns-2 : tie.Need-returns-2
-returns-2 c = simp (ne-eqb _ _ (c .if1 .left), ← (c .before .bits .ensures))
+returns-2 c = simp (c .if1 .left, ← (rw (c .before .before .reg-at .ensures) at (c .before .is-pc .ensures)))
 
 pub pc-write-spec : {M : Type 1} → statement M
-pc-write-spec = tie.close (tie.spec bits-requires returns returns-2)
+pc-write-spec = tie.close (tie.spec reg-at-requires is-pc-requires returns returns-2)
