@@ -1,4 +1,5 @@
-//! Home words: of the words that have one answer, the one with the ignored bits at zero.
+//! Home words: of the words that have one answer, the one with the ignored bits at zero and, where a displacement of zero is added or subtracted
+//! alike, bit 23 set.
 use crate::row::row;
 use a32::decode;
 use transfer::unconditional::is_preload;
