@@ -7,6 +7,8 @@ use Rattle.group_words.proofs.ldst.ldst_word.Reads as ldst-word
 use Rattle.group_words.proofs.media.media_word.Reads as media-word
 use Rattle.group_words.proofs.misc.misc_word.Reads as misc-word
 use Rattle.group_words.proofs.multiply.halfword_word.Reads as halfword-word
+use Rattle.group_words.proofs.multiply.multiply_word.Reads as multiply-word
+use Rattle.group_words.proofs.multiply.sync_word.Reads as sync-word
 
 pub extra-word-only : Only extra-word.Post
 extra-word-only κs a r r′ s s′ p q = p ∙ sym q
@@ -22,3 +24,9 @@ misc-word-only κs a r r′ s s′ p q = p ∙ sym q
 
 pub halfword-word-only : Only halfword-word.Post
 halfword-word-only κs a r r′ s s′ p q = p ∙ sym q
+
+pub multiply-word-only : Only multiply-word.Post
+multiply-word-only κs a r r′ s s′ p q = p ∙ sym q
+
+pub sync-word-only : Only sync-word.Post
+sync-word-only κs a r r′ s s′ p q = p ∙ sym q
