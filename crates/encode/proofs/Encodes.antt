@@ -12,9 +12,9 @@ use Rattle.insn.specs.Answer.{accepted}
 use Rattle.insn.specs.declared.Decoded.{Decoded}
 use Rattle.insn.specs.declared.Insn.{Insn}
 use Rattle.a32.specs.Decode.{decodeOf}
+use Rattle.a32.proofs.Elsewhere.{keeps-address}
 use Rattle.home.specs.Home.{homeOf}
 use Rattle.home.specs.Word.{wordOf}
-use Rattle.home.proofs.Address.{keeps-address}
 use Rattle.home.proofs.Leads.{refusal}
 use Rattle.home.proofs.Same.{home-decodes, home-small, leads-back}
 use Rattle.same.specs.Same.{sameOf}

@@ -10,10 +10,11 @@ use Rattle.word.specs.Every.{left, right}
 use Rattle.word.specs.Field.{field}
 use Rattle.word.specs.Layout.{join, whole}
 use Rattle.transfer.specs.Block.{baseOf, multipleOf, stackFormOf, stackOf, blockOf}
+use Rattle.a32.proofs.Groups.{bit-cases}
 use Rattle.parts.specs.Operands.{operandFlat}
 use Rattle.parts.specs.Parts.{isWriteBack, isAddress}
 use Rattle.home.specs.WordTransfer.{blockLayout, blockWord}
-use Rattle.home.proofs.Leads.{Leads, bit-cases, two-cases, refusal}
+use Rattle.home.proofs.Leads.{Leads, two-cases, refusal}
 
 -- "Rn (write-back if W)" holds the register and W, and is no address
 based : (w : ℕ) → (operandFlat (baseOf w) .reg ≡ field w 16 4) × (pick (isWriteBack (operandFlat (baseOf w))) 1 0 ≡ field w 21 1) × (isAddress (operandFlat (baseOf w)) ≡ false)

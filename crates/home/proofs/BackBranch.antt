@@ -13,9 +13,9 @@ use Rattle.word.specs.Layout.{join, whole}
 use Rattle.insn.specs.Name.{BLX}
 use Rattle.transfer.specs.Branch.{targetFrom, branchOf}
 use Rattle.transfer.specs.Unconditional.{blxOf}
+use Rattle.a32.proofs.Groups.{bit-cases}
 use Rattle.parts.specs.Parts.{at, isAddress}
 use Rattle.home.specs.WordTransfer.{offsetOf, branchLayout, branchWord, blxWord}
-use Rattle.home.proofs.Leads.{bit-cases}
 
 -- what is added to a number, and wraps, is had back by taking the number away
 back : (a s e : ℕ) → s + e < 2 ^ 32 → ((a + s + e) % 2 ^ 32 + (2 ^ 32 - a % 2 ^ 32)) % 2 ^ 32 ≡ s + e

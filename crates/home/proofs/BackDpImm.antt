@@ -15,13 +15,14 @@ use Rattle.insn.specs.declared.Flow.the-variants.{Next}
 use Rattle.arm.specs.Row.{pcFlow}
 use Rattle.imm.specs.Imm.{leastOf, immOf}
 use Rattle.dp.specs.DpImm.{dpImmOf, hintSlot, msrOf, toPc}
+use Rattle.a32.proofs.Groups.{bit-cases}
 use Rattle.parts.specs.Parts.{at, isCount, isAddress}
 use Rattle.home.specs.Table.{ignored}
 use Rattle.home.specs.Home.{clearAll, moveRow, dpImmRow}
 use Rattle.home.specs.WordDp.{wideLayout, hintLayout, msrLayout, source12, dpWord, wideWord, msrImmediateWord}
 use Rattle.home.proofs.BackDp.{Gives, no-rd, compare-leads, move-leads, plain-leads}
 use Rattle.home.proofs.BackImm.{imm-one, imm-two}
-use Rattle.home.proofs.Leads.{apart, Leads, bit-cases, refusal}
+use Rattle.home.proofs.Leads.{apart, Leads, refusal}
 
 module _ (w addr : ℕ) (bound : w < 2 ^ 32) (group : field w 25 3 ≡ 1) where
   wide-whole : (n : ℕ) → field w 20 5 ≡ n → join wideLayout (field w 0 12 ∷ field w 12 4 ∷ field w 16 4 ∷ n ∷ 1 ∷ field w 28 4 ∷ []) ≡ w

@@ -22,13 +22,14 @@ use Rattle.arm.specs.Shifts.{shiftOf, amountOf, plainOf, rrxOf, shiftedOf, shif
 use Rattle.dp.specs.Names.{dpName, shiftName}
 use Rattle.dp.specs.DpReg.{dpRegOf, sourceOf, movOf, movFlow}
 use Rattle.a32.specs.Decode.{controlOf}
+use Rattle.a32.proofs.Groups.{set-bit, bit-cases}
 use Rattle.parts.specs.Operands.{operandFlat}
 use Rattle.parts.specs.Parts.{isCount}
 use Rattle.home.specs.Table.{ignored}
 use Rattle.home.specs.Home.{clearAll, moveRow, dpRegRow}
 use Rattle.home.specs.WordDp.{amountLayout, byAmount, registerLayout, byRegister, source12, shift12, shiftWord, dpWord}
 use Rattle.home.proofs.BackDp.{Gives, all-read, no-rd, no-rn, compare-leads, move-leads, plain-leads}
-use Rattle.home.proofs.Leads.{Leads, set-bit, bit-cases, two-cases}
+use Rattle.home.proofs.Leads.{Leads, two-cases}
 
 module _ (w : ℕ) where
   -- the shift of a word, from its operand

@@ -13,12 +13,13 @@ use Rattle.multiply.specs.Multiply.{multiplyOf}
 use Rattle.ldst.specs.ExtraLdst.{memoryOf, subtractedIndexOf}
 use Rattle.ldst.specs.Mem.{unprivilegedOf, modeOf, minusZeroOf}
 use Rattle.a32.specs.Decode.{extraOf}
+use Rattle.a32.proofs.Groups.{bit-cases}
 use Rattle.home.specs.Table.{ignored, PRODUCTS, ALL-READ}
 use Rattle.home.specs.Home.{clearAll, extraRow}
 use Rattle.parts.specs.Operands.{signNumber, markNumber, operandFlat}
 use Rattle.parts.specs.Parts.{bitU, bitW}
 use Rattle.home.specs.WordExtra.{extra-layout, transfer, extraWord}
-use Rattle.home.proofs.Leads.{apart, Leads, bit-cases, two-cases, refusal, magnitude}
+use Rattle.home.proofs.Leads.{apart, Leads, two-cases, refusal, magnitude}
 use Rattle.home.proofs.BackLdst.{has-P}
 use Rattle.home.proofs.BackMultiply.{mul-leads, rest-leads}
 use Rattle.home.proofs.BackSync.{sync-keeps, sync-leads}

@@ -12,10 +12,11 @@ use Rattle.insn.specs.Name.{SMLABB, SMLAWB, SMULWB, SMLALBB, SMULBB}
 use Rattle.insn.specs.declared.Decoded.{Decoded}
 use Rattle.multiply.specs.Halfword.{halfOf, halvesOf, halfwordOf}
 use Rattle.multiply.specs.Multiply.{productOf, addingOf, longOf}
+use Rattle.a32.proofs.Groups.{bit-cases}
 use Rattle.home.specs.Table.{ignored}
 use Rattle.home.specs.Home.{clearAll, halfwordRow}
 use Rattle.home.specs.WordMultiply.{layout, halves, halfwordWord}
-use Rattle.home.proofs.Leads.{apart, Leads, bit-cases, two-cases}
+use Rattle.home.proofs.Leads.{apart, Leads, two-cases}
 use Rattle.home.proofs.Ways.{between}
 
 pub halfword-keeps : (w addr : ℕ) → halfwordOf (clearAll (ignored (halfwordRow w)) w) addr ≡ halfwordOf w addr

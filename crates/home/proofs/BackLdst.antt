@@ -14,11 +14,12 @@ use Rattle.word.specs.Signed.{minus}
 use Rattle.insn.specs.Numbers.{modeNumber}
 use Rattle.ldst.specs.Mem.{unprivilegedOf, modeOf, postOf, dispOf, minusZeroOf}
 use Rattle.ldst.specs.Ldst.{nameOf, refusedIndexOf, markedOf, ldstOf}
+use Rattle.a32.proofs.Groups.{bit-cases}
 use Rattle.home.specs.Home.{raisesOf, raised}
 use Rattle.parts.specs.Operands.{signNumber, markNumber}
 use Rattle.parts.specs.Parts.{bitP, bitU}
 use Rattle.home.specs.WordLdst.{loadBit, byteBit, userBit, writeBit, indexLayout, offset12, addedBit, layout, ldstWord}
-use Rattle.home.proofs.Leads.{apart, Leads, bit-cases, magnitude, refusal, raised-above, raised-below, raised-small}
+use Rattle.home.proofs.Leads.{apart, Leads, magnitude, refusal, raised-above, raised-below, raised-small}
 
 -- 27:25 is 27:26 and bit 25
 form : (w b : ℕ) → field w 26 2 ≡ 1 → field w 25 1 ≡ b → field w 25 3 ≡ 2 + b

@@ -15,12 +15,13 @@ use Rattle.insn.specs.Name.{SBFX, UBFX, SDIV, UDIV, SSAT, USAT, REV, REV16, RBI
 use Rattle.insn.specs.declared.Decoded.{Decoded}
 use Rattle.insn.specs.declared.Insn.{Insn}
 use Rattle.media.specs.Media.{mediaOf, udfOf, bfxOf, bfOf, divOf, satOf, satOr, satShiftOf, revOf, rotateOf, extendOf, revOrExtendOf}
+use Rattle.a32.proofs.Groups.{bit-cases}
 use Rattle.parts.specs.Operands.{operandFlat}
 use Rattle.parts.specs.Parts.{at, number}
 use Rattle.home.specs.Table.{ignored, ALL-READ, DIVIDES}
 use Rattle.home.specs.Home.{clearAll, mediaRow}
 use Rattle.home.specs.WordMedia.{udfLayout, bitsLayout, layout, satLayout, satLaid, bfxWord, divWord, revWord, extendWord, addExtendWord, laidAs, mediaWord}
-use Rattle.home.proofs.Leads.{apart, Leads, bit-cases, two-cases, refusal}
+use Rattle.home.proofs.Leads.{apart, Leads, two-cases, refusal}
 
 -- 24:20 is 24:21 and bit 20
 upper : (w n : ℕ) → field w 20 5 ≡ n → field w 21 4 ≡ n / 2

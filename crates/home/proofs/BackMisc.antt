@@ -16,12 +16,13 @@ use Rattle.insn.specs.declared.Insn.{Insn}
 use Rattle.insn.specs.declared.Operand.{Operand}
 use Rattle.arm.specs.Row.{among, _⇒_, rd, rn, rm, regOf, answer}
 use Rattle.misc.specs.Misc.{sourceOf, returnFlow, miscOf}
+use Rattle.a32.proofs.Groups.{bit-cases}
 use Rattle.home.specs.Table.{ignored}
 use Rattle.home.specs.Home.{clearAll, controlRow}
 use Rattle.parts.specs.Operands.{operandFlat}
 use Rattle.parts.specs.Parts.{at, isCount}
 use Rattle.home.specs.WordMisc.{status-layout, single-layout, single, several-layout, several, miscWord}
-use Rattle.home.proofs.Leads.{apart, Leads, bit-cases, two-cases, refusal}
+use Rattle.home.proofs.Leads.{apart, Leads, two-cases, refusal}
 
 pub misc-keeps : (w addr : ℕ) → miscOf (clearAll (ignored (controlRow w)) w) addr ≡ miscOf w addr
 unfolding controlRow

@@ -14,9 +14,10 @@ use Rattle.insn.specs.Name.{MUL, MULS, MLA, MLAS, UMAAL, MLS, UMULL, UMULLS, UM
 use Rattle.insn.specs.declared.Decoded.{Decoded}
 use Rattle.arm.specs.Row.{byS}
 use Rattle.multiply.specs.Multiply.{productOf, longOf, addingOf, clearS, multiplyOf}
+use Rattle.a32.proofs.Groups.{bit-cases}
 use Rattle.home.specs.WordMultiply.{layout, operations, isLong}
 use Rattle.home.specs.WordExtra.{extraWord}
-use Rattle.home.proofs.Leads.{apart, Leads, bit-cases, refusal}
+use Rattle.home.proofs.Leads.{apart, Leads, refusal}
 
 -- a name with its 23:20, and whether it is a long one
 abbrev Named : ℕ → ℕ → Bool → Type 0

@@ -9,11 +9,12 @@ use Rattle.word.specs.Choice.{by-test}
 use Rattle.word.specs.Field.{field, clear, clear-small, small, splits}
 use Rattle.word.specs.Layout.{join, whole}
 use Rattle.a32.specs.Decode.{extraOf}
+use Rattle.a32.proofs.Groups.{bit-cases}
 use Rattle.home.specs.Table.{ignored}
 use Rattle.home.specs.Home.{clearAll, extraRow}
 use Rattle.home.specs.WordMultiply.{layout}
 use Rattle.home.specs.WordExtra.{extraWord}
-use Rattle.home.proofs.Leads.{apart, Leads, bit-cases, refusal}
+use Rattle.home.proofs.Leads.{apart, Leads, refusal}
 use Rattle.home.proofs.BackMultiply.{nine}
 
 -- bit 20 is the lowest of 23:20

@@ -17,12 +17,13 @@ use Rattle.word.specs.Signed.{minus}
 use Rattle.insn.specs.Name.{PLD, CLREX, DSB, DMB, ISB}
 use Rattle.ldst.specs.Mem.{dispOf}
 use Rattle.transfer.specs.Unconditional.{barrierSlot, optionedOf, preloadSlot, preloadName, unconditionalOf}
+use Rattle.a32.proofs.Groups.{bit-cases}
 use Rattle.home.specs.Table.{ignored}
 use Rattle.home.specs.Home.{clearAll, barrierRow, raised, raisesOf}
 use Rattle.parts.specs.Operands.{signNumber}
 use Rattle.parts.specs.Parts.{up}
 use Rattle.home.specs.WordTransfer.{preloadLayout, preloadWord, barrierLayout, barriers, barrierWord}
-use Rattle.home.proofs.Leads.{apart, Leads, bit-cases, refusal, raised-small}
+use Rattle.home.proofs.Leads.{apart, Leads, refusal, raised-small}
 
 -- a displacement that is not 0 holds its magnitude and its sign
 signed-parts : (down : Bool) (off : ℕ) → eqb off 0 ≡ false

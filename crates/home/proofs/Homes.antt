@@ -9,9 +9,9 @@ use Rattle.word.specs.Choice.{pick, fails}
 use Rattle.word.specs.Field.{field, clear, splits}
 use Rattle.dp.specs.DpImm.{hintSlot}
 use Rattle.a32.specs.Decode.{controlOf}
+use Rattle.a32.proofs.Groups.{bit-cases}
 use Rattle.home.specs.Table.{ignored, ROWS}
 use Rattle.home.specs.Home.{clearAll, controlRow, halfwordRow, moveRow, dpRegRow, extraRow, plainRow, dpMiscRow, dpImmRow, mediaRow, barrierRow, rowOf, raisesOf, raised, homeOf}
-use Rattle.home.proofs.Leads.{bit-cases}
 
 module _ (w : ℕ) where
   second-row : field w 28 4 ≡ 15 → rowOf w ≡ barrierRow w

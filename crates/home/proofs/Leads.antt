@@ -22,17 +22,7 @@ abbrev pub Leads : (Insn → ℕ) → ℕ → ℕ → ℕ → Decoded → Type 0
 Leads word lo hi home d =
     d .refusal ≡ 0 → (word (d .insn) ≡ home) × (inside lo hi (d .insn .name) ≡ true) × (isAddress (at (d .insn) 0) ≡ false)
 
--- a bit is set or clear
-pub set-bit : (w n : ℕ) → eqb (field w n 1) 0 ≡ false → field w n 1 ≡ 1
-set-bit w n e = from (eqb-false (field w n 1) 0 e)
-  where
-    from : (field w n 1 ≡ 0 → ⊥) → field w n 1 ≡ 1
-    from h = omega (arith, small w n 1)
-
-pub bit-cases {ℓ} : {A : Type ℓ} (w n : ℕ) → (field w n 1 ≡ 0 → A) → (field w n 1 ≡ 1 → A) → A
-bit-cases w n off on = by-test (eqb (field w n 1) 0) (λ e. off (eqb-true (field w n 1) 0 e)) (λ e. on (set-bit w n e))
-
--- and not both
+-- a bit is not clear and set
 pub never {ℓ} : {A : Type ℓ} {n : ℕ} → n ≡ 0 → n ≡ 1 → A
 never off on = absurd (eqb-false 0 1 refl (sym off ∙ on))
 

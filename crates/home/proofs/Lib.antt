@@ -21,5 +21,4 @@ pub mod Homes
 pub mod Same
 pub mod Laid
 pub mod Unique
-pub mod Address
 pub mod Conditions

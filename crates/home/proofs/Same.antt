@@ -6,7 +6,7 @@ use mathlib.Core.Logic.{_↔_}
 use Prim.Native.Nat.{ℕ, _^_, _<_}
 use native.Mathlib.Nat.{lt-of-le-of-lt}
 use native.Mathlib.Omega.{arith}
-use borrow.Author.Tests.{eqb-true, eqb-false}
+use borrow.Author.Tests.{eqb-true}
 use lib.Dec.{eqb, ltb}
 use Rattle.word.specs.Choice.{inside, by-test, parts}
 use Rattle.word.specs.Field.{field, clear, small, splits}
@@ -21,8 +21,9 @@ use Rattle.media.specs.Media.{mediaOf}
 use Rattle.transfer.specs.Block.{blockOf}
 use Rattle.transfer.specs.Branch.{branchOf}
 use Rattle.transfer.specs.Unconditional.{barrierSlot, preloadSlot, unconditionalOf}
-use Rattle.insn.specs.Answer.{accepted, refused}
+use Rattle.insn.specs.Answer.{accepted}
 use Rattle.a32.specs.Decode.{decodeOf, controlOf, extraOf}
+use Rattle.a32.proofs.Groups as G
 use Rattle.home.specs.Table.{ignored, ROWS}
 use Rattle.home.specs.Home.{clearAll, controlRow, halfwordRow, dpRegRow, extraRow, dpImmRow, mediaRow, barrierRow, rowOf, raisesOf, raised, homeOf}
 use Rattle.parts.specs.Parts.{at, isAddress}
@@ -40,7 +41,7 @@ use Rattle.home.proofs.BackMisc.{misc-keeps, misc-leads, misc-second}
 use Rattle.home.proofs.BackUnconditional.{barrier-not-preload, no-barrier, no-barrier-row, no-preload-stays, preload-keeps, preload-leads, barrier-keeps, barrier-leads}
 use Rattle.home.proofs.Homes as H
 use Rattle.home.proofs.KeepsDp.{dp-reg-keeps, dp-imm-keeps}
-use Rattle.home.proofs.Leads.{apart, Leads, bit-cases, never, refusal, raised-above, raised-below, raised-small}
+use Rattle.home.proofs.Leads.{Leads, never, refusal, raised-above, raised-below, raised-small}
 use Rattle.home.proofs.Rows.{clearAll-le, keeps-cond, keeps-group, keeps-4, keeps-7, keeps-24-23, keeps-20}
 use Rattle.home.proofs.Ways as Ways
 
@@ -62,36 +63,37 @@ module _ (w addr : ℕ) (bound : w < 2 ^ 32) where
     λ ok. ap (λ (x : Decoded). wordOf (x .insn)) here ∙ back (subst (λ (x : Decoded). x .refusal ≡ 0) here ok) ∙ sym is,
   )
 
+  -- a word whose home word is in the same group
+  within : {row : ℕ → ℕ → Decoded} (h : ℕ) → homeOf w ≡ h → G.Group w row → G.Group h row → row h addr ≡ row w addr
+      → ((row w addr) .refusal ≡ 0 → wordOf ((row w addr) .insn) ≡ h) → Settled
+  within h is here there keeps back = settle h _ is (G.reaches w here addr) (G.reaches h there addr ∙ keeps) back
+
   -- condition 15
   module _ (c : field w 28 4 ≡ 15) where
-    -- a word that goes the same way as its home word
-    unconditional : (h : ℕ) → homeOf w ≡ h → field h 28 4 ≡ 15 → unconditionalOf h addr ≡ unconditionalOf w addr
-        → ((unconditionalOf w addr) .refusal ≡ 0 → wordOf ((unconditionalOf w addr) .insn) ≡ h) → Settled
-    unconditional h is still keeps back =
-        settle h (unconditionalOf w addr) is (Ways.to-unconditional w addr c) (Ways.to-unconditional h addr still ∙ keeps) back
-
     barrier : barrierSlot w ≡ true → Settled
     unfolding barrierSlot
     barrier slot =
         let is-barrier : field w 8 20 ≡ 0x57ff0 = eqb-true _ 0x57ff0 slot in
-        unconditional (clearAll (ignored (barrierRow w)) w)
+        within (clearAll (ignored (barrierRow w)) w)
         (H.second-home w c ∙ simp (no-preload-stays w c (barrier-not-preload w is-barrier)))
-        (keeps-cond (barrierRow w) w (H.barrier-below w) ∙ c)
+        (G.unconditional c)
+        (G.unconditional (keeps-cond (barrierRow w) w (H.barrier-below w) ∙ c))
         (barrier-keeps w addr is-barrier)
         (by-leads 129 132 _ (unconditionalOf w addr) (barrier-leads w addr is-barrier bound) Ways.named-barrier)
 
     preload : preloadSlot w ≡ true → Settled
     preload slot =
-        unconditional (raised (raisesOf w) w)
+        within (raised (raisesOf w) w)
         (H.second-home w c ∙ ap (raised (raisesOf w)) (no-barrier-row w (no-barrier w addr c slot)))
-        (raised-above (raisesOf w) w 28 4 refl ∙ c)
+        (G.unconditional c)
+        (G.unconditional (raised-above (raisesOf w) w 28 4 refl ∙ c))
         (preload-keeps w addr c slot)
         (by-leads 125 128 _ (unconditionalOf w addr) (preload-leads w addr c slot bound) Ways.named-preload)
 
     -- the others ignore nothing
     rest : barrierSlot w ≡ false → preloadSlot w ≡ false → Settled
     rest nb np =
-        unconditional w (H.second-home w c ∙ simp (no-preload-stays w c np, no-barrier-row w nb)) c refl
+        within w (H.second-home w c ∙ simp (no-preload-stays w c np, no-barrier-row w nb)) (G.unconditional c) (G.unconditional c) refl
         (λ ok. by-test (eqb (field w 25 3) 5) (λ e. blx (eqb-true _ 5 e)) (λ g. refusal (simp (g, nb, np) at ok)))
       where
         blx : field w 25 3 ≡ 5 → wordOf ((unconditionalOf w addr) .insn) ≡ w
@@ -102,14 +104,14 @@ module _ (w addr : ℕ) (bound : w < 2 ^ 32) where
     second : Settled
     second = by-test (barrierSlot w) barrier (λ nb. by-test (preloadSlot w) preload (rest nb))
 
-  -- a condition below 15, by 27:25
-  module _ (c : eqb (field w 28 4) 15 ≡ false) where
+  -- a condition below 15
+  module _ (c : G.Below w) where
     -- what a row's home word keeps of the tests on the way
     module _ (row : ℕ) (below : ltb row ROWS ≡ true) where
       abbrev h : ℕ
       h = clearAll (ignored row) w
 
-      still-c : eqb (field h 28 4) 15 ≡ false
+      still-c : G.Below h
       still-c = rw (keeps-cond row w below) c
 
       still-g : {n : ℕ} → field w 25 3 ≡ n → field h 25 3 ≡ n
@@ -135,8 +137,8 @@ module _ (w addr : ℕ) (bound : w < 2 ^ 32) where
     s-is is = eqb-true (field w 20 1) 0 (parts (eqb (field w 23 2) 2) _ is .1)
 
     module _ (g : field w 25 3 ≡ 0) where
-      extra : field w 4 1 ≡ 1 → field w 7 1 ≡ 1 → Settled
-      extra four seven =
+      extra : field w 7 1 ≡ 1 → field w 4 1 ≡ 1 → Settled
+      extra seven four =
           settle (clearAll (ignored (extraRow w)) w) (extraOf w addr) (H.extra-home w c g four seven) (Ways.to-extra w addr c g four seven)
           (Ways.to-extra (clearAll (ignored (extraRow w)) w) addr (still-c (extraRow w) below) (still-g (extraRow w) below g) (still-4 (extraRow w) below four) (still-7 (extraRow w) below seven) ∙ extra-keeps w addr g seven four)
           (by-leads 49 74 _ (extraOf w addr) (extra-leads w addr bound g seven four) Ways.named-extra)
@@ -144,10 +146,12 @@ module _ (w addr : ℕ) (bound : w < 2 ^ 32) where
           below : ltb (extraRow w) ROWS ≡ true
           below = H.extra-below w
 
-      halfword : controlOf w ≡ true → field w 4 1 ≡ 0 → field w 7 1 ≡ 1 → Settled
-      halfword is four seven =
-          settle (clearAll (ignored (halfwordRow w)) w) (halfwordOf w addr) (H.halfword-home w c g is four seven) (Ways.to-halfword w addr c g is four seven)
-          (Ways.to-halfword (clearAll (ignored (halfwordRow w)) w) addr (still-c (halfwordRow w) below) (still-g (halfwordRow w) below g) (still-control (halfwordRow w) below is) (still-4 (halfwordRow w) below four) (still-7 (halfwordRow w) below seven) ∙ halfword-keeps w addr)
+      halfword : controlOf w ≡ true → field w 7 1 ≡ 1 → field w 4 1 ≡ 0 → Settled
+      halfword is seven four =
+          within (clearAll (ignored (halfwordRow w)) w) (H.halfword-home w c g is four seven)
+          (G.halfword c g is seven four)
+          (G.halfword (still-c (halfwordRow w) below) (still-g (halfwordRow w) below g) (still-control (halfwordRow w) below is) (still-7 (halfwordRow w) below seven) (still-4 (halfwordRow w) below four))
+          (halfword-keeps w addr)
           (by-leads 133 148 _ (halfwordOf w addr)
           (halfword-leads w addr bound g (ten-is is) (s-is is) seven four)
           (λ i plain. Ways.named-halfword i plain 148))
@@ -155,45 +159,38 @@ module _ (w addr : ℕ) (bound : w < 2 ^ 32) where
           below : ltb (halfwordRow w) ROWS ≡ true
           below = H.halfword-below w
 
-      control : controlOf w ≡ true → Settled
-      control is =
-          bit-cases w 7
-          (λ seven.
-          settle (clearAll (ignored (controlRow w)) w) (miscOf w addr) (H.misc-home w c g is seven) (Ways.to-misc w addr c g is seven)
-          (Ways.to-misc (clearAll (ignored (controlRow w)) w) addr (still-c (controlRow w) below) (still-g (controlRow w) below g) (still-control (controlRow w) below is) (still-7 (controlRow w) below seven) ∙ misc-keeps w addr)
-          (λ ok. Ways.named-misc _ (leads seven ok .2) (leads seven ok .1) (misc-second w addr ok) ∙ leads seven ok .0))
-          (λ seven.
-          bit-cases w 4
-          (λ four. halfword is four seven)
-          (λ four. extra four seven))
+      control : controlOf w ≡ true → field w 7 1 ≡ 0 → Settled
+      control is seven =
+          within (clearAll (ignored (controlRow w)) w) (H.misc-home w c g is seven)
+          (G.misc c g is seven)
+          (G.misc (still-c (controlRow w) below) (still-g (controlRow w) below g) (still-control (controlRow w) below is) (still-7 (controlRow w) below seven))
+          (misc-keeps w addr)
+          (λ ok. Ways.named-misc _ (leads ok .2) (leads ok .1) (misc-second w addr ok) ∙ leads ok .0)
         where
           below : ltb (controlRow w) ROWS ≡ true
           below = H.control-below w
 
-          leads : field w 7 1 ≡ 0 → Leads miscWord 38 48 (clearAll (ignored (controlRow w)) w) (miscOf w addr)
-          leads seven =
-              misc-leads w addr bound g (ten-is is) (s-is is) seven
+          leads : Leads miscWord 38 48 (clearAll (ignored (controlRow w)) w) (miscOf w addr)
+          leads = misc-leads w addr bound g (ten-is is) (s-is is) seven
 
-      operation : controlOf w ≡ false → Settled
-      operation is =
-          bit-cases w 7
-          (λ seven. register (λ four. seven))
-          (λ seven. bit-cases w 4 (λ four. register (λ set. never four set)) (λ four. extra four seven))
+      operation : controlOf w ≡ false → (field w 4 1 ≡ 1 → field w 7 1 ≡ 0) → Settled
+      operation is seven =
+          within (clearAll (ignored (dpRegRow w)) w) (H.dp-home w c g is seven)
+          (G.dp-reg c g is seven)
+          (G.dp-reg (still-c (dpRegRow w) below) (still-g (dpRegRow w) below g) (still-control (dpRegRow w) below is)
+          (λ set. still-7 (dpRegRow w) below (seven (sym (keeps-4 (dpRegRow w) w below) ∙ set))))
+          (dp-reg-keeps w addr)
+          (by-leads 0 37 _ (dpRegOf w addr) (dp-reg-leads w addr bound g is seven) Ways.named-dp)
         where
           below : ltb (dpRegRow w) ROWS ≡ true
           below = H.dp-reg-below w
 
-          register : (field w 4 1 ≡ 1 → field w 7 1 ≡ 0) → Settled
-          register seven =
-              settle (clearAll (ignored (dpRegRow w)) w) (dpRegOf w addr) (H.dp-home w c g is seven) (Ways.to-dp w addr c g is seven)
-              (Ways.to-dp (clearAll (ignored (dpRegRow w)) w) addr (still-c (dpRegRow w) below) (still-g (dpRegRow w) below g) (still-control (dpRegRow w) below is)
-              (λ set. still-7 (dpRegRow w) below (seven (sym (keeps-4 (dpRegRow w) w below) ∙ set))) ∙ dp-reg-keeps w addr)
-              (by-leads 0 37 _ (dpRegOf w addr) (dp-reg-leads w addr bound g is seven) Ways.named-dp)
-
     immediate : field w 25 3 ≡ 1 → Settled
     immediate g =
-        settle (clearAll (ignored (dpImmRow w)) w) (dpImmOf w addr) (H.dp-imm-home w c g) (Ways.to-dp-imm w addr c g)
-        (Ways.to-dp-imm (clearAll (ignored (dpImmRow w)) w) addr (still-c (dpImmRow w) below) (still-g (dpImmRow w) below g) ∙ dp-imm-keeps w addr)
+        within (clearAll (ignored (dpImmRow w)) w) (H.dp-imm-home w c g)
+        (G.dp-imm c g)
+        (G.dp-imm (still-c (dpImmRow w) below) (still-g (dpImmRow w) below g))
+        (dp-imm-keeps w addr)
         back
       where
         below : ltb (dpImmRow w) ROWS ≡ true
@@ -221,14 +218,14 @@ module _ (w addr : ℕ) (bound : w < 2 ^ 32) where
                 (λ hint ok. by-leads 75 81 (clear w 8 4) (dpImmOf w addr) (hint-leads w addr bound g op hint) Ways.named-wide ok ∙ sym (H.hint-row w op hint))
                 (λ plain ok. msr (msr-low w addr bound g op plain) ∙ sym (H.msr-low-row w op plain))
 
-    -- a word of load/store, and of the groups that ignore nothing
-    transfers : field w 26 2 ≡ 1 → (field w 25 1 ≡ 1 → field w 4 1 ≡ 0) → homeOf w ≡ raised (raisesOf w) w → decodeOf w addr ≡ ldstOf w addr
-        → decodeOf (raised (raisesOf w) w) addr ≡ ldstOf (raised (raisesOf w) w) addr → Settled
+    -- a word of load/store
+    transfers : field w 26 2 ≡ 1 → (field w 25 1 ≡ 1 → field w 4 1 ≡ 0) → homeOf w ≡ raised (raisesOf w) w → G.Group w ldstOf
+        → G.Group (raised (raisesOf w) w) ldstOf → Settled
     transfers one four is here there =
-        settle (raised (raisesOf w) w) (ldstOf w addr) is here (there ∙ ldst-keeps w addr c)
+        within (raised (raisesOf w) w) is here there (ldst-keeps w addr c)
         (by-leads 82 89 _ (ldstOf w addr) (ldst-leads w addr bound c one four) Ways.named-ldst)
 
-    raised-c : eqb (field (raised (raisesOf w) w) 28 4) 15 ≡ false
+    raised-c : G.Below (raised (raisesOf w) w)
     raised-c = rw (raised-above (raisesOf w) w 28 4 refl) c
 
     raised-g : {n : ℕ} → field w 25 3 ≡ n → field (raised (raisesOf w) w) 25 3 ≡ n
@@ -239,30 +236,31 @@ module _ (w addr : ℕ) (bound : w < 2 ^ 32) where
 
     memory : field w 25 3 ≡ 2 → Settled
     memory g =
-        transfers (Ways.top w 2 1 g (omega arith) (omega arith)) (λ set. never clear-25 set) (H.ldst-home w c g) (Ways.to-ldst w addr c g)
-        (Ways.to-ldst (raised (raisesOf w) w) addr raised-c (raised-g g))
+        transfers (G.top w 1 g (omega arith) (omega arith)) (λ set. never clear-25 set) (H.ldst-home w c g) (G.ldst c g) (G.ldst raised-c (raised-g g))
       where
         clear-25 : field w 25 1 ≡ 0
         clear-25 = omega (arith, splits w 25 2 1, small w 25 1)
 
-    indexed : field w 25 3 ≡ 3 → Settled
-    indexed g =
-        bit-cases w 4
-        (λ four.
-        transfers (Ways.top w 3 1 g (omega arith) (omega arith)) (λ set. four) (H.ldst-index-home w c g four) (Ways.to-ldst-index w addr c g four)
-        (Ways.to-ldst-index (raised (raisesOf w) w) addr raised-c (raised-g g) (raised-4 four)))
-        (λ four.
-        settle (clearAll (ignored (mediaRow w)) w) (mediaOf w addr) (H.media-home w c g four) (Ways.to-media w addr c g four)
-        (Ways.to-media (clearAll (ignored (mediaRow w)) w) addr (still-c (mediaRow w) (H.media-below w)) (still-g (mediaRow w) (H.media-below w) g) (still-4 (mediaRow w) (H.media-below w) four) ∙ media-keeps w addr)
-        (by-leads 90 114 _ (mediaOf w addr) (media-leads w addr bound g four) Ways.named-media))
+    indexed : field w 25 3 ≡ 3 → field w 4 1 ≡ 0 → Settled
+    indexed g four =
+        transfers (G.top w 1 g (omega arith) (omega arith)) (λ set. four) (H.ldst-index-home w c g four) (G.ldst-index c g four)
+        (G.ldst-index raised-c (raised-g g) (raised-4 four))
+
+    media : field w 25 3 ≡ 3 → field w 4 1 ≡ 1 → Settled
+    media g four =
+        within (clearAll (ignored (mediaRow w)) w) (H.media-home w c g four)
+        (G.media c g four)
+        (G.media (still-c (mediaRow w) (H.media-below w)) (still-g (mediaRow w) (H.media-below w) g) (still-4 (mediaRow w) (H.media-below w) four))
+        (media-keeps w addr)
+        (by-leads 90 114 _ (mediaOf w addr) (media-leads w addr bound g four) Ways.named-media)
 
     multiple : field w 25 3 ≡ 4 → Settled
     multiple g =
-        settle w (blockOf w addr) (H.block-home w c g) (Ways.to-block w addr c g) (Ways.to-block w addr c g)
+        within w (H.block-home w c g) (G.block c g) (G.block c g) refl
         (by-leads 115 124 w (blockOf w addr) (block-leads w addr bound g) Ways.named-block)
 
     branches : field w 25 3 ≡ 5 → Settled
-    branches g = settle w (branchOf w addr) (H.branch-home w c g) (Ways.to-branch w addr c g) (Ways.to-branch w addr c g) back
+    branches g = within w (H.branch-home w c g) (G.branch c g) (G.branch c g) refl back
       where
         back : (branchOf w addr) .refusal ≡ 0 → wordOf ((branchOf w addr) .insn) ≡ w
         back ok =
@@ -270,25 +268,26 @@ module _ (w addr : ℕ) (bound : w < 2 ^ 32) where
             ∙ branch-leads w addr bound g c ok .0
 
     coprocessor : field w 26 2 ≡ 3 → Settled
-    coprocessor p =
-        settle w (refused 2) (H.coprocessor-home w c p) (Ways.to-coprocessor w addr c p) (Ways.to-coprocessor w addr c p) (λ ok. refusal ok)
+    coprocessor p = within w (H.coprocessor-home w c p) (G.coprocessor c p) (G.coprocessor c p) refl (λ ok. refusal ok)
 
-    first : Settled
-    first =
-        by-test (eqb (field w 25 3) 0) (λ e. by-test (controlOf w) (control (eqb-true _ 0 e)) (operation (eqb-true _ 0 e))) λ n0.
-        by-test (eqb (field w 25 3) 1) (λ e. immediate (eqb-true _ 1 e)) λ n1.
-        by-test (eqb (field w 25 3) 2) (λ e. memory (eqb-true _ 2 e)) λ n2.
-        by-test (eqb (field w 25 3) 3) (λ e. indexed (eqb-true _ 3 e)) λ n3.
-        by-test (eqb (field w 25 3) 4) (λ e. multiple (eqb-true _ 4 e)) λ n4.
-        by-test (eqb (field w 25 3) 5) (λ e. branches (eqb-true _ 5 e)) λ n5.
-        coprocessor (above (eqb-false _ 0 n0) (eqb-false _ 1 n1) (eqb-false _ 2 n2) (eqb-false _ 3 n3) (eqb-false _ 4 n4) (eqb-false _ 5 n5))
-      where
-        above : (field w 25 3 ≡ 0 → ⊥) → (field w 25 3 ≡ 1 → ⊥) → (field w 25 3 ≡ 2 → ⊥) → (field w 25 3 ≡ 3 → ⊥) → (field w 25 3 ≡ 4 → ⊥)
-            → (field w 25 3 ≡ 5 → ⊥) → field w 26 2 ≡ 3
-        above n0 n1 n2 n3 n4 n5 = omega (arith, splits w 25 2 1, small w 25 1, small w 25 3)
+  by : {row : ℕ → ℕ → Decoded} → G.Group w row → Settled
+  by (G.unconditional c) = second c
+  by (G.coprocessor c p) = coprocessor c p
+  by (G.misc c g is seven) = control c g is seven
+  by (G.halfword c g is seven four) = halfword c g is seven four
+  by (G.dp-reg c g is seven) = operation c g is seven
+  by (G.multiply c g seven four kind exclusive) = extra c g seven four
+  by (G.sync c g seven four kind exclusive) = extra c g seven four
+  by (G.extra-ldst c g seven four kind) = extra c g seven four
+  by (G.dp-imm c g) = immediate c g
+  by (G.ldst c g) = memory c g
+  by (G.ldst-index c g four) = indexed c g four
+  by (G.media c g four) = media c g four
+  by (G.block c g) = multiple c g
+  by (G.branch c g) = branches c g
 
   settled : Settled
-  settled = by-test (eqb (field w 28 4) 15) (λ e. second (eqb-true _ 15 e)) first
+  settled = by (G.found w .1)
 
 -- the home word of a word has the word's answer
 pub home-decodes : (w addr : ℕ) → w < 2 ^ 32 → decodeOf (homeOf w) addr ≡ decodeOf w addr

@@ -1,26 +1,18 @@
--- The group that a word goes to, and the group that a name leads to. Assumes nothing.
+-- The group that a name leads to, and two that words go to. Assumes nothing.
 use mathlib.Core.Path.{_≡_, ap, _∙_}
 use mathlib.Core.Bool.{true, false}
-use Prim.Native.Nat.{ℕ, _+_, _*_, _<_, _≤_}
+use Prim.Native.Nat.{ℕ, _≤_}
 use native.Mathlib.Omega.{arith}
 use borrow.Author.Tests.{leb-true, ltb-true, le-leb, lt-leb}
 use lib.Dec.{eqb, leb, ltb}
 use Rattle.word.specs.Choice.{pick, inside, parts, fails}
-use Rattle.word.specs.Field.{field, small, splits}
-use Rattle.insn.specs.Answer.{refused}
+use Rattle.word.specs.Field.{field}
 use Rattle.insn.specs.Name.{MSR, BLX}
 use Rattle.insn.specs.declared.Decoded.{Decoded}
 use Rattle.insn.specs.declared.Insn.{Insn}
-use Rattle.dp.specs.DpReg.{dpRegOf}
-use Rattle.dp.specs.DpImm.{dpImmOf}
-use Rattle.misc.specs.Misc.{miscOf}
 use Rattle.multiply.specs.Halfword.{halfwordOf}
-use Rattle.ldst.specs.Ldst.{ldstOf}
-use Rattle.media.specs.Media.{mediaOf}
-use Rattle.transfer.specs.Block.{blockOf}
-use Rattle.transfer.specs.Branch.{branchOf}
-use Rattle.transfer.specs.Unconditional.{unconditionalOf}
-use Rattle.a32.specs.Decode.{decodeOf, groupOf, dpMiscOf, plainOf, extraOf, controlOf}
+use Rattle.a32.specs.Decode.{decodeOf, groupOf, dpMiscOf, extraOf, controlOf}
+use Rattle.a32.proofs.Groups.{Below, halfword, bit-cases, top, reaches}
 use Rattle.parts.specs.Parts.{at, isAddress, isCount}
 use Rattle.home.specs.Word.{wordOf, statusWord}
 use Rattle.home.specs.WordDp.{dpWord, wideWord, msrImmediateWord}
@@ -30,81 +22,24 @@ use Rattle.home.specs.WordExtra.{extraWord}
 use Rattle.home.specs.WordLdst.{ldstWord}
 use Rattle.home.specs.WordMedia.{mediaWord}
 use Rattle.home.specs.WordTransfer.{blockWord, branchWord, blxWord, preloadWord, barrierWord}
-use Rattle.home.proofs.Leads.{bit-cases, two-cases}
+use Rattle.home.proofs.Leads.{two-cases}
 
--- 27:26 from 27:25
-pub top : (w g h : ℕ) → field w 25 3 ≡ g → h * 2 ≤ g → g < h * 2 + 2 → field w 26 2 ≡ h
-top w g h is low high = omega (arith, splits w 25 2 1, small w 25 1)
+-- bits 7 and 4 set: multiplies, exclusives, and the extra loads and stores, whose home words are one table's
+pub to-extra : (w addr : ℕ) → Below w → field w 25 3 ≡ 0 → field w 4 1 ≡ 1 → field w 7 1 ≡ 1 → decodeOf w addr ≡ extraOf w addr
+unfolding decodeOf groupOf dpMiscOf
+to-extra w addr c g four seven = simp (c, top w 0 g (omega arith) (omega arith), g, four, seven)
 
--- the groups of a word
-module _ (w addr : ℕ) where
-  pub to-unconditional : field w 28 4 ≡ 15 → decodeOf w addr ≡ unconditionalOf w addr
-  unfolding decodeOf
-  to-unconditional c = simp c
-
-  module _ (c : eqb (field w 28 4) 15 ≡ false) where
-    pub to-coprocessor : field w 26 2 ≡ 3 → decodeOf w addr ≡ refused 2
-    unfolding decodeOf
-    to-coprocessor p = simp (c, p)
-
-    module _ (g : field w 25 3 ≡ 0) where
-      pub to-halfword : controlOf w ≡ true → field w 4 1 ≡ 0 → field w 7 1 ≡ 1 → decodeOf w addr ≡ halfwordOf w addr
-      unfolding decodeOf groupOf dpMiscOf plainOf
-      to-halfword control four seven = simp (c, top w 0 0 g (omega arith) (omega arith), g, control, four, seven)
-
-      -- 02, P3: "Refusals: none remain in this corner"
-      pub halfword-accepted : controlOf w ≡ true → field w 4 1 ≡ 0 → field w 7 1 ≡ 1 → (decodeOf w addr) .refusal ≡ 0
-      halfword-accepted control four seven = ap (λ (d : Decoded). d .refusal) (to-halfword control four seven) ∙ accepted
-        where
-          accepted : (halfwordOf w addr) .refusal ≡ 0
-          accepted =
-              two-cases w 21
-              (λ op. simp op)
-              (λ op. bit-cases w 5 (λ x. simp (op, x)) (λ x. simp (op, x)))
-              (λ op. simp op)
-              (λ op. simp op)
-
-      pub to-misc : controlOf w ≡ true → field w 7 1 ≡ 0 → decodeOf w addr ≡ miscOf w addr
-      unfolding decodeOf groupOf dpMiscOf plainOf
-      to-misc control seven =
-          bit-cases w 4
-          (λ four. simp (c, top w 0 0 g (omega arith) (omega arith), g, control, four, seven))
-          (λ four. simp (c, top w 0 0 g (omega arith) (omega arith), g, control, four, seven))
-
-      pub to-dp : controlOf w ≡ false → (field w 4 1 ≡ 1 → field w 7 1 ≡ 0) → decodeOf w addr ≡ dpRegOf w addr
-      unfolding decodeOf groupOf dpMiscOf plainOf
-      to-dp control seven =
-          bit-cases w 4
-          (λ four. simp (c, top w 0 0 g (omega arith) (omega arith), g, control, four))
-          (λ four. simp (c, top w 0 0 g (omega arith) (omega arith), g, control, four, seven four))
-
-      pub to-extra : field w 4 1 ≡ 1 → field w 7 1 ≡ 1 → decodeOf w addr ≡ extraOf w addr
-      unfolding decodeOf groupOf dpMiscOf
-      to-extra four seven = simp (c, top w 0 0 g (omega arith) (omega arith), g, four, seven)
-
-    pub to-dp-imm : field w 25 3 ≡ 1 → decodeOf w addr ≡ dpImmOf w addr
-    unfolding decodeOf groupOf
-    to-dp-imm g = simp (c, top w 1 0 g (omega arith) (omega arith), g)
-
-    pub to-ldst : field w 25 3 ≡ 2 → decodeOf w addr ≡ ldstOf w addr
-    unfolding decodeOf groupOf
-    to-ldst g = simp (c, top w 2 1 g (omega arith) (omega arith), g)
-
-    pub to-ldst-index : field w 25 3 ≡ 3 → field w 4 1 ≡ 0 → decodeOf w addr ≡ ldstOf w addr
-    unfolding decodeOf groupOf
-    to-ldst-index g four = simp (c, top w 3 1 g (omega arith) (omega arith), g, four)
-
-    pub to-media : field w 25 3 ≡ 3 → field w 4 1 ≡ 1 → decodeOf w addr ≡ mediaOf w addr
-    unfolding decodeOf groupOf
-    to-media g four = simp (c, top w 3 1 g (omega arith) (omega arith), g, four)
-
-    pub to-block : field w 25 3 ≡ 4 → decodeOf w addr ≡ blockOf w addr
-    unfolding decodeOf groupOf
-    to-block g = simp (c, top w 4 2 g (omega arith) (omega arith), g)
-
-    pub to-branch : field w 25 3 ≡ 5 → decodeOf w addr ≡ branchOf w addr
-    unfolding decodeOf groupOf
-    to-branch g = simp (c, top w 5 2 g (omega arith) (omega arith), g)
+-- 02, P3: "Refusals: none remain in this corner"
+pub halfword-accepted : (w addr : ℕ) → Below w → field w 25 3 ≡ 0 → controlOf w ≡ true → field w 7 1 ≡ 1 → field w 4 1 ≡ 0 → (decodeOf w addr) .refusal ≡ 0
+halfword-accepted w addr c g control seven four = ap (λ (d : Decoded). d .refusal) (reaches w (halfword c g control seven four) addr) ∙ accepted
+  where
+    accepted : (halfwordOf w addr) .refusal ≡ 0
+    accepted =
+        two-cases w 21
+        (λ op. simp op)
+        (λ op. bit-cases w 5 (λ x. simp (op, x)) (λ x. simp (op, x)))
+        (λ op. simp op)
+        (λ op. simp op)
 
 -- a name from a number on, and up to one, against another
 beyond : (lo n : ℕ) → leb lo n ≡ true → (k : ℕ) → ltb k lo ≡ true → leb n k ≡ false

@@ -4,25 +4,13 @@ use mathlib.Core.Bool.{Bool, true, false}
 use Prim.Native.Nat.{ℕ}
 use lib.Dec.{eqb}
 use Rattle.word.specs.Choice.{pick}
-use Rattle.word.specs.Field.{field}
 use Rattle.insn.specs.Answer.{accepted, refused}
 use Rattle.insn.specs.Name.{B}
 use Rattle.insn.specs.declared.Decoded.{Decoded}
 use Rattle.insn.specs.declared.Flow.{Flow}
 use Rattle.insn.specs.declared.Insn.{Insn}
-use Rattle.dp.specs.DpReg.{dpRegOf}
-use Rattle.dp.specs.DpImm.{dpImmOf}
-use Rattle.misc.specs.Misc.{miscOf}
-use Rattle.multiply.specs.Halfword.{halfwordOf}
-use Rattle.multiply.specs.Multiply.{multiplyOf}
-use Rattle.multiply.specs.Sync.{syncOf}
-use Rattle.ldst.specs.ExtraLdst.{extraLdstOf}
-use Rattle.ldst.specs.Ldst.{ldstOf}
-use Rattle.media.specs.Media.{mediaOf}
-use Rattle.transfer.specs.Block.{blockOf}
-use Rattle.transfer.specs.Branch.{branchOf}
-use Rattle.transfer.specs.Unconditional.{unconditionalOf}
-use Rattle.a32.specs.Decode.{controlOf, plainOf, extraOf, dpMiscOf, groupOf, decodeOf}
+use Rattle.a32.specs.Decode.{decodeOf}
+use Rattle.a32.proofs.Groups.{Group, unconditional, coprocessor, misc, halfword, dp-reg, multiply, sync, extra-ldst, dp-imm, ldst, ldst-index, media, block, branch, by-group}
 use Rattle.predicated.specs.Predicated.{isBranch, onlyB}
 
 through : (b : Bool) (x y : Decoded) → onlyB (pick b x y) ≡ pick b (onlyB x) (onlyB y)
@@ -53,77 +41,23 @@ either-false : (b : Bool) → pick b false false ≡ false
 either-false true = refl
 either-false false = refl
 
-ruleset laws = (through, flows-through, accepted-b, no-row-b, either-true, either-false)
+ruleset laws = (through, flows-through, accepted-b, no-row-b, coprocessor-b, either-true, either-false)
 
--- it holds of a choice, if of both
-data Only (d : Decoded) : Type 0 where
-  only : onlyB d ≡ true → Only d
-
-module _ (w addr : ℕ) where
-  choice : (b : Bool) {x y : Decoded} → Only x → Only y → Only (pick b x y)
-  choice true first second = first
-  choice false first second = second
-
-  misc : Only (miscOf w addr)
-  misc = only (simp laws)
-
-  dp-reg : Only (dpRegOf w addr)
-  dp-reg = only (simp laws)
-
-  multiply : Only (multiplyOf w addr)
-  multiply = only (simp laws)
-
-  halfword : Only (halfwordOf w addr)
-  halfword = only (simp laws)
-
-  sync : Only (syncOf w addr)
-  sync = only (simp laws)
-
-  extra-ldst : Only (extraLdstOf w addr)
-  extra-ldst = only (simp laws)
-
-  dp-imm : Only (dpImmOf w addr)
-  dp-imm = only (simp laws)
-
-  ldst : Only (ldstOf w addr)
-  ldst = only (simp laws)
-
-  media : Only (mediaOf w addr)
-  media = only (simp laws)
-
-  block : Only (blockOf w addr)
-  block = only (simp laws)
-
-  branch : Only (branchOf w addr)
-  branch = only (simp laws)
-
-  unconditional : Only (unconditionalOf w addr)
-  unconditional = only (simp laws)
-
-  plain : Only (plainOf w addr)
-  unfolding plainOf
-  plain = choice (controlOf w) (choice (eqb (field w 7 1) 0) misc halfword) dp-reg
-
-  extra : Only (extraOf w addr)
-  unfolding extraOf
-  extra = choice (eqb (field w 5 2) 0) (choice (eqb (field w 24 1) 0) multiply sync) extra-ldst
-
-  dp-misc : Only (dpMiscOf w addr)
-  unfolding dpMiscOf
-  dp-misc = choice (eqb (field w 4 1) 0) plain (choice (eqb (field w 7 1) 0) plain extra)
-
-  group : Only (groupOf w addr)
-  unfolding groupOf
-  group =
-      choice (eqb (field w 25 3) 0) dp-misc
-      (choice (eqb (field w 25 3) 1) dp-imm
-      (choice (eqb (field w 25 3) 2) ldst
-      (choice (eqb (field w 25 3) 3) (choice (eqb (field w 4 1) 0) ldst media)
-      (choice (eqb (field w 25 3) 4) block (choice (eqb (field w 25 3) 5) branch (only no-row-b))))))
-
-  pub branches-are-b : onlyB (decodeOf w addr) ≡ true
-  unfolding decodeOf
-  branches-are-b = told (choice (eqb (field w 28 4) 15) unconditional (choice (eqb (field w 26 2) 3) (only coprocessor-b) group))
-    where
-      told : {d : Decoded} → Only d → onlyB d ≡ true
-      told (only is) = is
+pub branches-are-b : (w addr : ℕ) → onlyB (decodeOf w addr) ≡ true
+branches-are-b w addr = by-group w (λ row. onlyB (row addr) ≡ true) (λ row. only)
+  where
+    only : {row : ℕ → ℕ → Decoded} → Group w row → onlyB (row w addr) ≡ true
+    only (unconditional c) = simp laws
+    only (coprocessor c p) = simp laws
+    only (misc c g is seven) = simp laws
+    only (halfword c g is seven four) = simp laws
+    only (dp-reg c g is seven) = simp laws
+    only (multiply c g seven four kind exclusive) = simp laws
+    only (sync c g seven four kind exclusive) = simp laws
+    only (extra-ldst c g seven four kind) = simp laws
+    only (dp-imm c g) = simp laws
+    only (ldst c g) = simp laws
+    only (ldst-index c g four) = simp laws
+    only (media c g four) = simp laws
+    only (block c g) = simp laws
+    only (branch c g) = simp laws

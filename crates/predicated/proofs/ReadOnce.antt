@@ -1,19 +1,21 @@
 -- 02, P2: conditional code read once. Assumes nothing.
 use mathlib.Core.Path.{_≡_, refl, sym, ap, _∙_}
-use mathlib.Core.Bool.{Bool, true, false}
+use mathlib.Core.Bool.{Bool, true}
 use mathlib.Core.List.{append-assoc}
 use Prim.Native.Nat.{ℕ, _+_}
+use borrow.Author.Tests.{eqb-false}
 use lib.Dec.{eqb, leb}
-use Rattle.word.specs.Choice.{pick, by-test}
+use Rattle.word.specs.Choice.{by-test}
 use Rattle.word.specs.Field.{field}
 use Rattle.insn.specs.declared.Decoded.{Decoded}
-use Rattle.a32.specs.Decode.{controlOf, plainOf, extraOf, dpMiscOf, groupOf, decodeOf}
+use Rattle.a32.specs.Decode.{controlOf, decodeOf}
+use Rattle.a32.proofs.Groups.{Below, Group, unconditional, coprocessor, misc, halfword, dp-reg, multiply, sync, extra-ldst, dp-imm, ldst, ldst-index, media, block, branch, found, reaches}
 use Rattle.home.specs.Alike.{Alike, fields-alike}
 use Rattle.home.specs.Home.{homeOf}
 use Rattle.home.proofs.Conditions.{homes-alike}
 use Rattle.spelling.specs.Line.{nameOf, insnText, answerText}
 use Rattle.predicated.specs.Predicated.{flowAt, under, textUnder}
-use Rattle.predicated.proofs.Laws.{through, no-row-under, coprocessor-under, refusal-under, name-under, operands-under, flow-under}
+use Rattle.predicated.proofs.Laws.{coprocessor-under, refusal-under, name-under, operands-under, flow-under}
 use Rattle.predicated.proofs.Groups as G
 
 -- the text of an answer under a condition
@@ -21,72 +23,76 @@ text-under : (c : ℕ) (d : Decoded) → answerText (under c d) ≡ textUnder c 
 unfolding under answerText insnText nameOf
 text-under c d = by-test (eqb (d .refusal) 0) (λ e. simp (e, append-assoc)) (λ e. simp e)
 
--- an answer is another one, under a condition
-data Once (c : ℕ) (there here : Decoded) : Type 0 where
-  once : there ≡ under c here → Once c there here
+module _ (w v addr : ℕ) (alike : Alike w v) (c : Below w) (c′ : Below v) where
+  -- fields below the condition, as they are in w
+  still : {n : ℕ} (lo k : ℕ) → leb (lo + k) 28 ≡ true → field w lo k ≡ n → field v lo k ≡ n
+  still lo k low is = sym (fields-alike w v alike lo k low) ∙ is
 
--- and so is a choice by one test
-choice : {c : ℕ} {b b′ : Bool} {x x′ y y′ : Decoded} → b′ ≡ b → Once c x′ x → Once c y′ y → Once c (pick b′ x′ y′) (pick b x y)
-choice {c = c} {b = b} {x = x} {y = y} same (once first) (once second) = once (rw (same, first, second) (sym (through c b x y)))
-
-module _ (w v addr : ℕ) (alike : Alike w v) where
-  abbrev At : (ℕ → ℕ → Decoded) → Type 0
-  At row = Once (field v 28 4) (row v addr) (row w addr)
-
-  test : (lo k n : ℕ) → leb (lo + k) 28 ≡ true → eqb (field v lo k) n ≡ eqb (field w lo k) n
-  test lo k n below = sym (ap (λ (x : ℕ). eqb x n) (fields-alike w v alike lo k below))
-
-  control : controlOf v ≡ controlOf w
+  control : {b : Bool} → controlOf w ≡ b → controlOf v ≡ b
   unfolding controlOf
-  control = simp (fields-alike w v alike)
+  control is = simp (← (fields-alike w v alike 23 2 refl), ← (fields-alike w v alike 20 1 refl)) is
 
-  plain : At plainOf
-  unfolding plainOf
-  plain = choice control (choice (test 7 1 0 refl) (once (G.misc w v addr alike)) (once (G.halfword w v addr alike))) (once (G.dp-reg w v addr alike))
+  -- so v is in the group of w
+  beside : {row : ℕ → ℕ → Decoded} → Group w row → Group v row
+  beside (unconditional e) = absurd (eqb-false (field w 28 4) 15 c e)
+  beside (coprocessor _ p) = coprocessor c′ (still 26 2 refl p)
+  beside (misc _ g is seven) = misc c′ (still 25 3 refl g) (control is) (still 7 1 refl seven)
+  beside (halfword _ g is seven four) = halfword c′ (still 25 3 refl g) (control is) (still 7 1 refl seven) (still 4 1 refl four)
+  beside (dp-reg _ g is seven) =
+      dp-reg c′ (still 25 3 refl g) (control is) (λ set. still 7 1 refl (seven (fields-alike w v alike 4 1 refl ∙ set)))
+  beside (multiply _ g seven four kind exclusive) =
+      multiply c′ (still 25 3 refl g) (still 7 1 refl seven) (still 4 1 refl four) (still 5 2 refl kind) (still 24 1 refl exclusive)
+  beside (sync _ g seven four kind exclusive) =
+      sync c′ (still 25 3 refl g) (still 7 1 refl seven) (still 4 1 refl four) (still 5 2 refl kind) (still 24 1 refl exclusive)
+  beside (extra-ldst _ g seven four kind) =
+      extra-ldst c′ (still 25 3 refl g) (still 7 1 refl seven) (still 4 1 refl four) (rw (← (fields-alike w v alike 5 2 refl)) kind)
+  beside (dp-imm _ g) = dp-imm c′ (still 25 3 refl g)
+  beside (ldst _ g) = ldst c′ (still 25 3 refl g)
+  beside (ldst-index _ g four) = ldst-index c′ (still 25 3 refl g) (still 4 1 refl four)
+  beside (media _ g four) = media c′ (still 25 3 refl g) (still 4 1 refl four)
+  beside (block _ g) = block c′ (still 25 3 refl g)
+  beside (branch _ g) = branch c′ (still 25 3 refl g)
 
-  extra : At extraOf
-  unfolding extraOf
-  extra = choice (test 5 2 0 refl) (choice (test 24 1 0 refl) (once (G.multiply w v addr alike)) (once (G.sync w v addr alike))) (once (G.extra-ldst w v addr alike))
+  -- and the group answers v as w, under v's condition
+  once : {row : ℕ → ℕ → Decoded} → Group w row → row v addr ≡ under (field v 28 4) (row w addr)
+  once (unconditional e) = absurd (eqb-false (field w 28 4) 15 c e)
+  once (coprocessor _ p) = sym (coprocessor-under (field v 28 4))
+  once (misc _ g is seven) = G.misc w v addr alike
+  once (halfword _ g is seven four) = G.halfword w v addr alike
+  once (dp-reg _ g is seven) = G.dp-reg w v addr alike
+  once (multiply _ g seven four kind exclusive) = G.multiply w v addr alike
+  once (sync _ g seven four kind exclusive) = G.sync w v addr alike
+  once (extra-ldst _ g seven four kind) = G.extra-ldst w v addr alike
+  once (dp-imm _ g) = G.dp-imm w v addr alike
+  once (ldst _ g) = G.ldst w v addr alike
+  once (ldst-index _ g four) = G.ldst w v addr alike
+  once (media _ g four) = G.media w v addr alike
+  once (block _ g) = G.block w v addr alike
+  once (branch _ g) = G.branch w v addr alike
 
-  dp-misc : At dpMiscOf
-  unfolding dpMiscOf
-  dp-misc = choice (test 4 1 0 refl) plain (choice (test 7 1 0 refl) plain extra)
+  pub read-once : decodeOf v addr ≡ under (field v 28 4) (decodeOf w addr)
+  read-once = of (found w .1)
+    where
+      of : {row : ℕ → ℕ → Decoded} → Group w row → decodeOf v addr ≡ under (field v 28 4) (decodeOf w addr)
+      of group = reaches v (beside group) addr ∙ once group ∙ ap (under (field v 28 4)) (sym (reaches w group addr))
 
-  group : At groupOf
-  unfolding groupOf
-  group =
-      choice (test 25 3 0 refl) dp-misc
-      (choice (test 25 3 1 refl) (once (G.dp-imm w v addr alike))
-      (choice (test 25 3 2 refl) (once (G.ldst w v addr alike))
-      (choice (test 25 3 3 refl) (choice (test 4 1 0 refl) (once (G.ldst w v addr alike)) (once (G.media w v addr alike)))
-      (choice (test 25 3 4 refl) (once (G.block w v addr alike))
-      (choice (test 25 3 5 refl) (once (G.branch w v addr alike)) (once (sym (no-row-under _))))))))
+  -- the text after the word
+  pub text-once : answerText (decodeOf v addr) ≡ textUnder (field v 28 4) (decodeOf w addr)
+  text-once = ap answerText read-once ∙ text-under (field v 28 4) (decodeOf w addr)
 
-  module _ (c : eqb (field w 28 4) 15 ≡ false) (c′ : eqb (field v 28 4) 15 ≡ false) where
-    pub read-once : decodeOf v addr ≡ under (field v 28 4) (decodeOf w addr)
-    unfolding decodeOf
-    read-once = rw (c, c′) (told (choice (test 26 2 3 refl) (once (sym (coprocessor-under _))) group))
-      where
-        told : {there here : Decoded} → Once (field v 28 4) there here → there ≡ under (field v 28 4) here
-        told (once is) = is
+  -- home words differ in the condition alone, too
+  pub home-once : Alike (homeOf w) (homeOf v)
+  home-once = homes-alike w v alike c c′
 
-    -- the text after the word
-    pub text-once : answerText (decodeOf v addr) ≡ textUnder (field v 28 4) (decodeOf w addr)
-    text-once = ap answerText read-once ∙ text-under (field v 28 4) (decodeOf w addr)
+  -- part by part
+  pub same-refusal : (decodeOf v addr) .refusal ≡ (decodeOf w addr) .refusal
+  same-refusal = ap (λ (d : Decoded). d .refusal) read-once ∙ refusal-under (field v 28 4) (decodeOf w addr)
 
-    -- home words differ in the condition alone, too
-    pub home-once : Alike (homeOf w) (homeOf v)
-    home-once = homes-alike w v alike c c′
+  pub same-name : (decodeOf v addr) .insn .name ≡ (decodeOf w addr) .insn .name
+  same-name = ap (λ (d : Decoded). d .insn .name) read-once ∙ name-under (field v 28 4) (decodeOf w addr)
 
-    -- part by part
-    pub same-refusal : (decodeOf v addr) .refusal ≡ (decodeOf w addr) .refusal
-    same-refusal = ap (λ (d : Decoded). d .refusal) read-once ∙ refusal-under (field v 28 4) (decodeOf w addr)
+  pub same-operands : (decodeOf v addr) .insn .ops ≡ (decodeOf w addr) .insn .ops
+  same-operands = ap (λ (d : Decoded). d .insn .ops) read-once ∙ operands-under (field v 28 4) (decodeOf w addr)
 
-    pub same-name : (decodeOf v addr) .insn .name ≡ (decodeOf w addr) .insn .name
-    same-name = ap (λ (d : Decoded). d .insn .name) read-once ∙ name-under (field v 28 4) (decodeOf w addr)
-
-    pub same-operands : (decodeOf v addr) .insn .ops ≡ (decodeOf w addr) .insn .ops
-    same-operands = ap (λ (d : Decoded). d .insn .ops) read-once ∙ operands-under (field v 28 4) (decodeOf w addr)
-
-    pub same-flow : (decodeOf w addr) .refusal ≡ 0 → (decodeOf v addr) .insn .flow ≡ flowAt (field v 28 4) ((decodeOf w addr) .insn .flow)
-    same-flow ok = ap (λ (d : Decoded). d .insn .flow) read-once ∙ flow-under (field v 28 4) (decodeOf w addr) ok
+  pub same-flow : (decodeOf w addr) .refusal ≡ 0 → (decodeOf v addr) .insn .flow ≡ flowAt (field v 28 4) ((decodeOf w addr) .insn .flow)
+  same-flow ok = ap (λ (d : Decoded). d .insn .flow) read-once ∙ flow-under (field v 28 4) (decodeOf w addr) ok
