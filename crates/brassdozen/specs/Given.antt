@@ -4,8 +4,7 @@ use Prim.Native.Nat.{ℕ}
 use lib.Dec.{eqb}
 use Rattle.word.specs.Choice.{pick}
 use Rattle.insn.specs.declared.Decoded.{Decoded}
-use Rattle.home.specs.Home.{homeAnswer}
-use Rattle.encode.specs.Encode.{encodeOf}
+use Rattle.encode.specs.Encode.{encodeOf, homeAnswer}
 use Rattle.value.specs.Value.{insnFrom}
 use Rattle.packed.specs.Packed.{packed}
 use Rattle.text.specs.Fits.{answerOf, lastOf}

@@ -2,7 +2,7 @@
 //! `include/brassdozen.h` declares each function to C.
 use a32::decode;
 use encode::encode;
-use home::home;
+use encode::home;
 use line::line;
 use listed::listing;
 use packed::pack;

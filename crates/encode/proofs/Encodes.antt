@@ -1,5 +1,5 @@
--- Encoding an answer gives its home word, and a value is refused exactly if no word has it for its answer. Assumes nothing.
-use mathlib.Core.Path.{_≡_, refl, sym, ap, _∙_}
+-- The word that an answer leads to is the home word, encoding an answer gives it, and a value is refused exactly if no word has it for its answer. Assumes nothing.
+use mathlib.Core.Path.{_≡_, refl, sym, ap, _∙_, subst}
 use mathlib.Core.Bool.{false, true≢false}
 use mathlib.Core.Logic.{_↔_}
 use Prim.Native.Nat.{ℕ, _%_, _^_, _<_}
@@ -16,12 +16,12 @@ use Rattle.a32.proofs.Elsewhere.{keeps-address}
 use Rattle.home.specs.Home.{homeOf}
 use Rattle.home.specs.Word.{wordOf}
 use Rattle.home.proofs.Leads.{refusal}
-use Rattle.home.proofs.Same.{home-decodes, home-small, leads-back}
+use Rattle.home.proofs.Same.{home-decodes, leads-home, home-small, leads-back}
 use Rattle.same.specs.Same.{sameOf}
 use Rattle.same.proofs.Exact.{same-is}
 use Rattle.encode.specs.declared.Encoded.{Encoded}
 use Rattle.words.specs.Candidate.{candidate}
-use Rattle.encode.specs.Encode.{checked, encodeOf}
+use Rattle.encode.specs.Encode.{checked, encodeOf, homeAnswer}
 
 -- what the code gives of the word it finds and that word's answer
 pub encoded : (i : Insn) {w : ℕ} {d : Decoded} {r : Encoded} → w ≡ candidate i → d ≡ decodeOf w (i .addr) → r ≡ checked i w d → r ≡ encodeOf i
@@ -29,6 +29,16 @@ encoded i at-w at-d is =
     is
     ∙ ap (checked i _) at-d
     ∙ ap (λ (n : ℕ). checked i n (decodeOf n (i .addr))) at-w
+
+-- what the code gives of a word's answer and the word that it leads to
+pub homed : (w : ℕ) {d : Decoded} {v : ℕ} → w < 2 ^ 32 → d ≡ decodeOf w 0 → d .refusal ≡ 0 → v ≡ candidate (d .insn)
+    → record { refusal = 0; word = v } ≡ homeAnswer w
+homed w bound at-d ok at-v =
+    let accepts : (decodeOf w 0) .refusal ≡ 0 = subst (λ (x : Decoded). x .refusal ≡ 0) at-d ok in
+    simp accepts (ap (λ (n : ℕ). record { refusal = 0; word = n }) (at-v ∙ ap (λ (x : Decoded). candidate (x .insn)) at-d ∙ led accepts))
+  where
+    led : (decodeOf w 0) .refusal ≡ 0 → candidate ((decodeOf w 0) .insn) ≡ homeOf w
+    led accepts = ap (λ (n : ℕ). n % 2 ^ 32) (leads-home w 0 bound accepts) ∙ mod-eq-of-lt (home-small w bound)
 
 -- an answer that is not refused
 accepted-of : (d : Decoded) → d .refusal ≡ 0 → d ≡ accepted (d .insn)

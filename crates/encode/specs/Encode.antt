@@ -1,10 +1,11 @@
--- The word of an instruction value, or refusal 4: "encoding, no word in demand 2's range has this answer".
+-- The word of an instruction value, or refusal 4: "encoding, no word in demand 2's range has this answer"; and the home word of a word.
 use Prim.Native.Nat.{ℕ}
 use lib.Dec.{eqb}
 use Rattle.word.specs.Choice.{pick}
 use Rattle.insn.specs.declared.Decoded.{Decoded}
 use Rattle.insn.specs.declared.Insn.{Insn}
 use Rattle.a32.specs.Decode.{decodeOf}
+use Rattle.home.specs.Home.{homeOf}
 use Rattle.same.specs.Same.{sameOf}
 use Rattle.words.specs.Candidate.{candidate}
 use Rattle.encode.specs.declared.Encoded.{Encoded}
@@ -19,3 +20,10 @@ checked i w d = pick (eqb (d .refusal) 0) (pick (sameOf (d .insn) i) (record { r
 -- the candidate, if it has the value for its answer at the value's address; if it has not, no word has (`refuses-exactly`)
 abbrev pub encodeOf : Insn → Encoded
 encodeOf i = checked i (candidate i) (decodeOf (candidate i) (i .addr))
+
+-- the home word of an accepted word; beside a refusal, 0
+abbrev pub homeAnswer : ℕ → Encoded
+homeAnswer w =
+    pick (eqb ((decodeOf w 0) .refusal) 0)
+    (record { refusal = 0; word = homeOf w })
+    (record { refusal = (decodeOf w 0) .refusal; word = 0 })

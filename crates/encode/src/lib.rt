@@ -1,11 +1,11 @@
 //! The encoder: an instruction value's word is put together from its name and operands, and the decoder says whether it
-//! has that value for its answer.
+//! has that value for its answer. A home word is the word that an answer leads to.
 use a32::decode;
 use insn::Insn;
 use same::same;
 use words::word_of;
 ghost use mathlib.Core.Path.{_≡_};
-ghost use Rattle.encode.specs.Encode.{encodeOf, refused4};
+ghost use Rattle.encode.specs.Encode.{encodeOf, homeAnswer, refused4};
 
 /// The refusal of an instruction value that no word in range has for its answer.
 pub const NO_WORD: u8 = 4;
@@ -33,6 +33,24 @@ pub fn encode(i: Insn) -> Encoded
         }
     } else {
         refuse()
+    }
+}
+
+/// The home word of an accepted word: an answer of the decoder has the word that it leads to, so there is nothing to check.
+pub fn home(w: u32) -> Encoded
+    ensures { λ r. ⌜ r ≡ homeAnswer w ⌝ }
+{
+    let answer = decode(w, 0);
+    if answer.refusal == 0 {
+        Encoded {
+            refusal: 0,
+            word: word_of(answer.insn),
+        }
+    } else {
+        Encoded {
+            refusal: answer.refusal,
+            word: 0,
+        }
     }
 }
 

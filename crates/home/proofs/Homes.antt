@@ -143,8 +143,3 @@ coprocessor-home w c p = simp (c, isnt 0 refl, isnt 1 refl, isnt 2 refl, isnt 3 
   where
     isnt : (n : ℕ) → ltb n 6 ≡ true → eqb (field w 25 3) n ≡ false
     isnt n below = ne-eqb (field w 25 3) n (λ is. omega (arith, ltb-true n 6 below, splits w 25 2 1))
-
--- every row is in the table
-pub row-below : (w : ℕ) → ltb (rowOf w) ROWS ≡ true
-unfolding rowOf dpMiscRow plainRow
-row-below w = simp (bounds, control-below w, halfword-below w, dp-reg-below w, extra-below w, dp-imm-below w, media-below w, barrier-below w)

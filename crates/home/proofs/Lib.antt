@@ -19,6 +19,4 @@ pub mod Rows
 pub mod Ways
 pub mod Homes
 pub mod Same
-pub mod Laid
-pub mod Unique
 pub mod Conditions

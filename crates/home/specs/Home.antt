@@ -1,28 +1,19 @@
 -- The home word of a word (01, "Home words").
 use mathlib.Core.Bool.{Bool}
 use mathlib.Core.List.{List, [], _∷_}
-use Prim.Native.Nat.{ℕ, _*_, _/_, _%_, _^_}
+use Prim.Native.Nat.{ℕ}
 use lib.Dec.{eqb}
-use lib.ListN.{getD}
 use Rattle.word.specs.Choice.{pick, both}
 use Rattle.word.specs.Field.{field, clear, put}
-use Rattle.a32.specs.Decode.{controlOf, decodeOf}
+use Rattle.a32.specs.Decode.{controlOf}
 use Rattle.dp.specs.DpImm.{hintSlot}
 use Rattle.transfer.specs.Unconditional.{barrierSlot, preloadSlot}
-use Rattle.home.specs.declared.Homed.{Homed}
-use Rattle.home.specs.Table.{Ignored, ignored, laid, ALL-READ, MOVES, COMPARES, MRS-ROW, MSR-REGISTER, MSR-IMMEDIATE, EXCHANGES, CLZ-ROW, SATURATING, EXCLUSIVE-STORES, EXCLUSIVE-LOADS, EXTRA-INDEX, HINTS, PRODUCTS, DIVIDES, CLREX-ROW}
+use Rattle.home.specs.Table.{Ignored, ignored, ALL-READ, MOVES, COMPARES, MRS-ROW, MSR-REGISTER, MSR-IMMEDIATE, EXCHANGES, CLZ-ROW, SATURATING, EXCLUSIVE-STORES, EXCLUSIVE-LOADS, EXTRA-INDEX, HINTS, PRODUCTS, DIVIDES, CLREX-ROW}
 
 -- one fold that clears a row's fields
 abbrev pub clearAll : List Ignored → ℕ → ℕ
 clearAll [] w = w
 clearAll (f ∷ fs) w = clearAll fs (clear w (f .lo) (f .width))
-
--- field n of a row, cleared, as the code's table has it
-abbrev pub twoBytes : ℕ → ℕ → ℕ
-twoBytes row n = getD laid row 0 / 2 ^ (16 * n)
-
-abbrev pub clearField : ℕ → ℕ → ℕ → ℕ
-clearField w row n = clear w (twoBytes row n / 256 % 256) (twoBytes row n % 256)
 
 -- the row that a word belongs to, by 01's tests, group by group
 
@@ -116,10 +107,3 @@ raised up w = pick up (put w 23 1 1) w
 
 unfoldable pub homeOf : ℕ → ℕ
 homeOf w = raised (raisesOf w) (clearAll (ignored (rowOf w)) w)
-
--- the home word of an accepted word; beside a refusal, 0
-abbrev pub homeAnswer : ℕ → Homed
-homeAnswer w =
-    pick (eqb ((decodeOf w 0) .refusal) 0)
-    (record { refusal = 0; word = homeOf w })
-    (record { refusal = (decodeOf w 0) .refusal; word = 0 })

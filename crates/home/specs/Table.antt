@@ -99,24 +99,3 @@ table =
 
 abbrev pub ignored : ℕ → List Ignored
 ignored row = getD table row []
-
--- the same table as the code lays it out: for each row up to four fields of two bytes each, a lowest bit above a width
-abbrev pub laid : List ℕ
-laid =
-    0 ∷
-    0x1004 ∷
-    0x0c04 ∷
-    0x0004_0801_0a02_1004 ∷
-    0x0801_0a02_0c04 ∷
-    0x0c04 ∷
-    0x080c ∷
-    0x0804_1004 ∷
-    0x0804 ∷
-    0x0804 ∷
-    0x0004_0804 ∷
-    0x0804 ∷
-    0x0804 ∷
-    0x0c04 ∷
-    0x0c04 ∷
-    0x0004 ∷
-    []

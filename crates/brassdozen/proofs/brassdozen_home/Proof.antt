@@ -1,7 +1,7 @@
 -- `brassdozen::brassdozen_home` meets its contract. Assumes nothing.
 use borrow.Author.Needs.{needs}
 use mathlib.Core.Path.{ap, _∙_}
-use Rattle.home.specs.declared.Homed.{Homed}
+use Rattle.encode.specs.declared.Encoded.{Encoded}
 use Rattle.packed.specs.Packed.{packed}
 use Rattle.brassdozen.proofs.brassdozen_home.Statement.{statement}
 use Rattle.brassdozen.proofs.brassdozen_home.Tie as tie
@@ -13,7 +13,7 @@ pack-requires : tie.Need-pack-requires
 pack-requires c κs = search needs
 
 returns : tie.Need-returns
-returns c = c .pack .ensures ∙ ap (λ (h : Homed). packed (h .refusal) (h .word)) (c .before .home .ensures)
+returns c = c .pack .ensures ∙ ap (λ (h : Encoded). packed (h .refusal) (h .word)) (c .before .home .ensures)
 
 pub brassdozen-home-spec : {M : Type 1} → statement M
 brassdozen-home-spec = tie.close (tie.spec home-requires pack-requires returns)
