@@ -9,7 +9,7 @@
 #include <string>
 #include <vector>
 
-extern "C" uint16_t row(uint32_t word);
+extern "C" uint16_t brassdozen_manual_row(uint32_t word);
 
 using Rows = std::set<std::string>;
 
@@ -102,7 +102,7 @@ int main() {
         for (uint64_t i = 0; i < 1u << 28; i++) {
             const uint32_t w = first << 28 | i;
             if (first != 15 && field(w, 26, 2) == 3) continue;
-            const size_t n = row(w);
+            const size_t n = brassdozen_manual_row(w);
             const char *name = otherwise[n];
             bool refuses = name[0] != 'a';
             for (auto d : of[n])

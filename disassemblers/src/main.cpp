@@ -38,7 +38,7 @@ int main(int argc, char **argv) {
     std::map<std::tuple<std::string, std::string, std::string>, Count> differ;
     for (uint64_t i = 0; i < count; i++) {
         const uint32_t w = first + i;
-        const uint16_t n = row(w);
+        const uint16_t n = brassdozen_manual_row(w);
         const std::string theirs = titleOf(disassembler->text(w));
         if (all[n] == theirs)
             (disassembler->marked() ? marked : agree)[n].add(w);

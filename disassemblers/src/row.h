@@ -2,4 +2,4 @@
 #pragma once
 #include <cstdint>
 
-extern "C" uint16_t row(uint32_t word);
+extern "C" uint16_t brassdozen_manual_row(uint32_t word);

@@ -49,7 +49,7 @@ const char *why(const string &who, uint32_t w, const string &ours, const string 
         if (bits(w, 11, 8) == 9) return "later: ARMv8 takes coprocessor 9 for half precision";
     }
     // the same row with those bits mended, where they are asked too
-    if (const uint32_t m = mended(ours, w); m != w && row(m) == row(w)) return none ? "should-be: they have none" : "should-be: they name another";
+    if (const uint32_t m = mended(ours, w); m != w && brassdozen_manual_row(m) == brassdozen_manual_row(w)) return none ? "should-be: they have none" : "should-be: they name another";
     if (isUnpredictable(ours, w)) return none ? "unpredictable: so the page says, they have none" : "unpredictable: so the page says, they name another";
     if (ours == "unallocated memory hint") return none ? "hint: a NOP, they have none" : "loose: they name an unallocated hint";
     if (ours == "UNDEFINED" && who == "binutils") return "loose: they name what is UNDEFINED";

@@ -4,7 +4,7 @@ use mathlib.Core.Path.{_≡_, _∙_, sym}
 use Rattle.manual.specs.A8.{rowOf}
 use Rattle.tables.specs.Titles.{titleAt}
 use Rattle.rows.specs.Told.{title-is}
-use Rattle.rows.proofs.row.Reads as row
+use Rattle.rows.proofs.brassdozen_manual_row.Reads as row
 
 pub row-only : (κs : _) (a : _) (r r′ : _) (s s′ : _) → row.Post κs a r s → row.Post κs a r′ s′ → r ≡ r′
 row-only κs a r r′ s s′ p q = p .number ∙ sym (q .number)

@@ -13,7 +13,7 @@ const SUBS_PC_LR: u16 = 259;
 
 /// The number of the row of `w`, by the tables of chapter A5 and the pages of chapter A8.
 #[no_mangle]
-pub extern "C" fn row(w: u32) -> u16
+pub extern "C" fn brassdozen_manual_row(w: u32) -> u16
     ensures { λ r. ⌜ Numbered (rowOf w) r ⌝ }
 {
     let n = table_row(w);

@@ -53,7 +53,7 @@ pub fn is_return(w: u32) -> bool
 {
     let rd = column(w, 15, 12);
     let s = column(w, 20, 20);
-    if rd == 15 { s == 1 } else { false }
+    if rd == 0b1111 { s == 1 } else { false }
 }
 
 /// The page of a word whose row is the title numbered `n`, but for that "SEE".
@@ -115,7 +115,7 @@ fn is_one_word(w: u32, p: u32, u: u32, wb: u32) -> bool
     let add = column(w, 23, 23);
     let wback = column(w, 21, 21);
     let imm12 = column(w, 11, 0);
-    if rn == 13 {
+    if rn == 0b1101 {
         if index == p {
             if add == u {
                 return if wback == wb { imm12 == 4 } else { false };

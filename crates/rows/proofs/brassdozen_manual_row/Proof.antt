@@ -1,8 +1,8 @@
--- `rows::row` meets its contract. Assumes nothing.
+-- `rows::brassdozen_manual_row` meets its contract. Assumes nothing.
 use borrow.Author.Needs.{needs}
 use Rattle.rows.proofs.Paging as P
-use Rattle.rows.proofs.row.Statement.{statement}
-use Rattle.rows.proofs.row.Tie as tie
+use Rattle.rows.proofs.brassdozen_manual_row.Statement.{statement}
+use Rattle.rows.proofs.brassdozen_manual_row.Tie as tie
 
 table-row-requires : tie.Need-table-row-requires
 table-row-requires c κs = search needs
@@ -28,8 +28,8 @@ other-page-requires-2 c κs = search needs
 returns-3 : tie.Need-returns-3
 returns-3 c = P.not-returning _ _ (c .before .before .before .table-row .ensures) (cc) (c .other-page2 .ensures)
 
-pub row-spec : {M : Type 1} → statement M
-row-spec =
+pub brassdozen-manual-row-spec : {M : Type 1} → statement M
+brassdozen-manual-row-spec =
     tie.close
     (tie.spec
     table-row-requires
