@@ -1,4 +1,4 @@
-//! An instruction value as a row of numbers: the row that `value` reads.
+//! An instruction value as a row of numbers: the row that `value` reads. A row is written, or compared with one that is there.
 use insn::Insn;
 use insn::Operand;
 use insn::PLACES;
@@ -7,15 +7,17 @@ use parts::Flat;
 use parts::flatten;
 use text::NO_ROOM;
 use text::Written;
+use value::number;
 ghost use mathlib.Core.Path.{_≡_};
 ghost use mathlib.Core.List.{[], _∷_};
-ghost use Prim.Native.Nat.{_≤_};
+ghost use Prim.Native.Nat.{_≤_, _<_};
+ghost use Rattle.parts.specs.Operands.{plainFlat};
 ghost use Rattle.text.specs.Fits.{answerOf, lastOf};
 ghost use Rattle.text.specs.Put.{Room, Put};
-ghost use Rattle.row.specs.Row.{firstRow, lastRow, operandRow, placesRow, rowOf};
+ghost use Rattle.row.specs.Row.{firstRow, lastRow, flatRow, operandRow, placesRow, rowOf, holds, Told};
 
 /// How many numbers a row has: five, and eleven for each operand.
-pub const ROW: usize = 49;
+pub const ROW: usize = 5 + 11 * PLACES;
 
 /// Writes the row of `i` to the start of `out`, or nothing.
 pub fn put_row(out: &mut [u64], i: Insn) -> Written
@@ -121,4 +123,144 @@ fn put_number(out: &mut [u64], at: usize, x: u64) -> usize
 {
     out[at] = x;
     at + 1
+}
+
+/// Whether `row` is the row of `i`: beyond its end there are zeros, and what is after the last number is not read.
+pub fn is_row(row: &[u64], i: Insn) -> bool
+    ensures { λ r. ⌜ r ≡ holds (now (row .entry)) 0 (rowOf i) ⌝ }
+{
+    let cond = i.cond;
+    let flow = i.flow;
+    let ops = i.ops;
+    if has_three(row, 0, i.addr, i.name as u64, cond.0 as u64) {
+        if has_two(row, 3, flow.number() as u64, flow.target() as u64) {
+            has_places(row, ops)
+        } else {
+            false
+        }
+    } else {
+        false
+    }
+}
+
+fn has_places(row: &[u64], ops: [Place; PLACES]) -> bool
+    ensures { λ r. ⌜ Told (now (row .entry)) 5 (placesRow ops) r ⌝ }
+{
+    let a = ops[0];
+    let b = ops[1];
+    let c = ops[2];
+    let d = ops[3];
+    let a = a.operand;
+    let b = b.operand;
+    let c = c.operand;
+    let d = d.operand;
+    if has_operand(row, 5, a) {
+        if has_operand(row, 16, b) {
+            if has_operand(row, 27, c) {
+                has_operand(row, 38, d)
+            } else {
+                false
+            }
+        } else {
+            false
+        }
+    } else {
+        false
+    }
+}
+
+/// Most operands are of the first two kinds: what they have no number for is compared with zeros, for speed.
+fn has_operand(row: &[u64], at: usize, o: Operand) -> bool
+    requires { ⌜ at < 128 ⌝ }
+    ensures { λ r. ⌜ Told (now (row .entry)) at (operandRow o) r ⌝ }
+{
+    match o {
+        Operand::Empty => has_flat(row, at, bare(0, 0)),
+        Operand::Register(r) => has_flat(row, at, bare(1, r.0)),
+        _ => has_flat(row, at, flatten(o)),
+    }
+}
+
+/// The numbers of an operand that holds a register or nothing.
+fn bare(kind: u8, reg: u8) -> Flat
+    ensures { λ r. ⌜ r ≡ plainFlat kind reg 0 0 0 0 ⌝ }
+{
+    Flat {
+        kind: kind,
+        reg: reg,
+        how: 0,
+        amount: 0,
+        negative: 0,
+        value: 0,
+        index: 0,
+        mode: 0,
+        size: 0,
+        decimal: 0,
+        minus: 0,
+    }
+}
+
+fn has_flat(row: &[u64], at: usize, f: Flat) -> bool
+    requires { ⌜ at < 128 ⌝ }
+    requires { ⌜ f .negative ≤ f .value ⌝ }
+    ensures { λ r. ⌜ Told (now (row .entry)) at (flatRow f) r ⌝ }
+{
+    if has_first(row, at, f) {
+        has_last(row, at + 6, f)
+    } else {
+        false
+    }
+}
+
+fn has_first(row: &[u64], at: usize, f: Flat) -> bool
+    requires { ⌜ at < 128 ⌝ }
+    requires { ⌜ f .negative ≤ f .value ⌝ }
+    ensures { λ r. ⌜ Told (now (row .entry)) at (firstRow f) r ⌝ }
+{
+    let value = f.value - f.negative as u64;
+    if has_three(row, at, f.kind as u64, f.reg as u64, f.how as u64) {
+        has_three(row, at + 3, f.amount as u64, f.negative as u64, value)
+    } else {
+        false
+    }
+}
+
+fn has_last(row: &[u64], at: usize, f: Flat) -> bool
+    requires { ⌜ at < 256 ⌝ }
+    ensures { λ r. ⌜ Told (now (row .entry)) at (lastRow f) r ⌝ }
+{
+    let minus = f.minus as u64;
+    if has_three(row, at, f.index as u64, f.mode as u64, f.size as u64) {
+        has_two(row, at + 3, f.decimal as u64, minus)
+    } else {
+        false
+    }
+}
+
+fn has_three(row: &[u64], at: usize, x: u64, y: u64, z: u64) -> bool
+    requires { ⌜ at < 512 ⌝ }
+    ensures { λ r. ⌜ Told (now (row .entry)) at (x ∷ y ∷ z ∷ []) r ⌝ }
+{
+    if has_two(row, at, x, y) {
+        has(row, at + 2, z)
+    } else {
+        false
+    }
+}
+
+fn has_two(row: &[u64], at: usize, x: u64, y: u64) -> bool
+    requires { ⌜ at < 1024 ⌝ }
+    ensures { λ r. ⌜ Told (now (row .entry)) at (x ∷ y ∷ []) r ⌝ }
+{
+    if has(row, at, x) {
+        has(row, at + 1, y)
+    } else {
+        false
+    }
+}
+
+fn has(row: &[u64], at: usize, x: u64) -> bool
+    ensures { λ r. ⌜ Told (now (row .entry)) at (x ∷ []) r ⌝ }
+{
+    number(row, at) == x
 }

@@ -1,5 +1,5 @@
--- An instruction value from a row of numbers: a row that any program can fill. Every row is one of a value; a number that is too large
--- counts by its low bits, and beyond the row's end there are zeros.
+-- An instruction value from a row of numbers: a row that any program can fill. Every row is read as some value: a number that is too large
+-- counts by its low bits, and beyond the row's end there are zeros. Whether the value's row is the row that was read is for the encoder to say.
 use mathlib.Core.Bool.{Bool, not}
 use mathlib.Core.List.{List, [], _∷_}
 use Prim.Native.Nat.{ℕ, _+_, _%_, _^_}

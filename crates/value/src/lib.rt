@@ -218,7 +218,7 @@ fn word(row: &[u64], n: usize) -> u32
 }
 
 /// Number `n` of a row, or 0 beyond its end.
-fn number(row: &[u64], n: usize) -> u64
+pub fn number(row: &[u64], n: usize) -> u64
     ensures { λ r. ⌜ r ≡ getD (now (row .entry)) n 0 ⌝ }
 {
     if n < row.len() { row[n] } else { 0 }

@@ -1,0 +1,14 @@
+-- `row::has` meets its contract. Assumes nothing.
+use borrow.Author.Needs.{needs}
+use Rattle.same.proofs.Tests.{last}
+use Rattle.row.proofs.has.Statement.{statement}
+use Rattle.row.proofs.has.Tie as tie
+
+number-requires : tie.Need-number-requires
+number-requires c κs = search needs
+
+returns : tie.Need-returns
+returns c = record { is = simp (c .number .ensures) (last _) }
+
+pub has-spec : {M : Type 1} → statement M
+has-spec = tie.close (tie.spec number-requires returns)
