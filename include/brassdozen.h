@@ -17,11 +17,19 @@
 extern "C" {
 #endif
 
+/* The version of this header: 10,000 for each major one, 100 for each minor one, and one for each patch. The major one changes where what is
+   here changes, a row or a function, and the minor one where something is added. */
+enum { BRASSDOZEN_VERSION = 10000 };
+
+/* The version of the library that is linked. */
+uint32_t brassdozen_version(void);
+
 /* A refusal's number, or 0. */
 enum {
+    BRASSDOZEN_SHORT = 1,       /* decoding bytes: fewer than four */
     BRASSDOZEN_COPROCESSOR = 2, /* decoding: condition below 15 and bits 27:26 = 11 */
     BRASSDOZEN_NO_ROW = 3,      /* decoding: any other word that names no instruction that is known here */
-    BRASSDOZEN_NO_WORD = 4,     /* encoding: no word has this answer */
+    BRASSDOZEN_NO_WORD = 4,     /* encoding: no word's answer has this row */
     BRASSDOZEN_NO_ROOM = 10     /* writing: longer than what is lent */
 };
 
@@ -63,12 +71,18 @@ enum {
    after the 49. At one address, two accepted words have equal rows exactly if they have one home word. */
 uint8_t brassdozen_decode(uint32_t word, uint64_t address, uint64_t *row, size_t length);
 
-/* The word whose answer, at the row's address, the row is: the home word of all that have it; or 4, exactly if there is none. Every row of
-   every length stands for a value: a number that is too large counts by its low bits, beyond the row's end there are zeros, and what is
-   after the 49th is not read. A row that brassdozen_decode has written gives the home word of its word. */
+/* Decodes the first four of `bytes`, low byte first, as brassdozen_decode does the word that they are; what is after them is not read. Fewer
+   are refused with 1, whatever the row. */
+uint8_t brassdozen_decode_bytes(const uint8_t *bytes, size_t count, uint64_t address, uint64_t *row, size_t length);
+
+/* The home word of the words whose answer, at the address in the row, has this row; or 4, exactly if no word's has. Every number counts whole.
+   Of a row of another length the first 49 numbers are read: beyond its end there are zeros, and what is after the 49th is not read. A row
+   that brassdozen_decode has written gives the home word of its word. */
 uint64_t brassdozen_encode(const uint64_t *row, size_t length);
 
-/* The home word of `word`: of all words with its answer, the one with the bits that are ignored at zero; or 2 or 3, as for decoding. */
+/* The home word of `word`: of all words with its answer, the one in which the bits that are ignored are zero, but that bit 23 is one where it
+   is ignored: in a load or store in immediate offset mode, but for the extra ones, and in a preload, if 11:0 is 0. Or 2 or 3, as for
+   decoding. */
 uint64_t brassdozen_home(uint32_t word);
 
 /* Writes the line of `word` at `address`, as the listing has it, newline included, to the start of `out`, and gives its length, at most 96;

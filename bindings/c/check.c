@@ -59,6 +59,40 @@ static void check_row(uint32_t word, uint64_t address)
     }
 }
 
+/* Bytes, low byte first, with some after them: fewer than four are refused, whatever the row. */
+static void check_bytes(uint32_t word, uint64_t address)
+{
+    uint8_t bytes[6] = {(uint8_t)word, (uint8_t)(word >> 8), (uint8_t)(word >> 16), (uint8_t)(word >> 24), 0xff, 0xff};
+    uint64_t whole[ROOM], row[ROOM];
+    memset(whole, UNTOUCHED, sizeof whole);
+    unsigned refusal = brassdozen_decode(word, address, whole, ROOM);
+    for (size_t count = 0; count <= sizeof bytes; count++) {
+        memset(row, UNTOUCHED, sizeof row);
+        CHECK(brassdozen_decode_bytes(bytes, count, address, row, ROOM) == (count < 4 ? BRASSDOZEN_SHORT : refusal));
+        CHECK(count < 4 ? untouched(row, row + ROOM) : memcmp(row, whole, sizeof row) == 0);
+    }
+    memset(row, UNTOUCHED, sizeof row);
+    CHECK(brassdozen_decode_bytes(bytes, 3, address, row, 0) == BRASSDOZEN_SHORT);
+    CHECK(brassdozen_decode_bytes(bytes, 4, address, row, 0) == (refusal ? refusal : BRASSDOZEN_NO_ROOM));
+    CHECK(untouched(row, row + ROOM));
+}
+
+/* An accepted word's row, with each number in turn beyond the width of its type. */
+static void check_wide(uint32_t word, uint64_t address)
+{
+    const uint64_t no_word = (uint64_t)BRASSDOZEN_NO_WORD << 32;
+    uint64_t row[BRASSDOZEN_ROW];
+    if (brassdozen_decode(word, address, row, BRASSDOZEN_ROW) != 0)
+        return;
+    for (size_t place = 1; place < BRASSDOZEN_ROW; place++) {
+        row[place] += (uint64_t)1 << 40;
+        CHECK(brassdozen_encode(row, BRASSDOZEN_ROW) == no_word);
+        row[place] -= (uint64_t)1 << 40;
+    }
+    row[5 + 1] += 256;
+    CHECK(brassdozen_encode(row, BRASSDOZEN_ROW) == no_word);
+}
+
 /* A line in each room: it is written whole, or not at all. */
 static void check_line(uint64_t address, uint32_t word, const char *expected)
 {
@@ -128,6 +162,8 @@ int main(void)
         int text;
         CHECK(sscanf(line, "%" SCNx64 " %*u %n%*x %" SCNx32, &address, &text, &word) == 2);
         check_row(word, address);
+        check_bytes(word, address);
+        check_wide(word, address);
         check_line(address, word, line + text);
         for (int byte = 0; byte < 4; byte++)
             words[4 * count + (size_t)byte] = (uint8_t)(word >> 8 * byte);
@@ -137,6 +173,7 @@ int main(void)
     check_listing(words, 0);
     check_listing(words, 1);
     check_listing(words, count);
+    CHECK(brassdozen_version() == BRASSDOZEN_VERSION);
     uint64_t nothing = 0;
     CHECK(brassdozen_refusal(brassdozen_encode(&nothing, 0)) == BRASSDOZEN_NO_WORD);
     printf("%zu words, %lu checks\n", count, checks);

@@ -5,6 +5,9 @@
 
 #![no_std]
 
+/// The version that these declarations are of, as `BRASSDOZEN_VERSION` of the header says it.
+pub const VERSION: u32 = 10_000;
+
 /// How many numbers a row has.
 pub const ROW: usize = 49;
 
@@ -19,13 +22,16 @@ pub const LISTING: usize = 393_280;
 pub struct Refusal(pub u8);
 
 impl Refusal {
+    /// Decoding bytes: fewer than four.
+    pub const SHORT: Refusal = Refusal(1);
+
     /// Decoding: condition below 15 and bits 27:26 = 11.
     pub const COPROCESSOR: Refusal = Refusal(2);
 
     /// Decoding: any other word that names no instruction that is known.
     pub const NO_ROW: Refusal = Refusal(3);
 
-    /// Encoding: no word has this answer.
+    /// Encoding: no word's answer has this row.
     pub const NO_WORD: Refusal = Refusal(4);
 
     /// Writing: longer than what is lent.
@@ -54,15 +60,25 @@ impl core::fmt::Display for Refusal {
     }
 }
 
-/// Decodes a word into the first numbers of `row`. A refusal changes none of them.
-pub fn decode(word: u32, address: u64, row: &mut [u64]) -> Result<(), Refusal> {
-    match unsafe { foreign::brassdozen_decode(word, address, row.as_mut_ptr(), row.len()) } {
-        0 => Ok(()),
-        refusal => Err(Refusal(refusal)),
-    }
+/// The version of the library that is linked.
+pub fn version() -> u32 {
+    unsafe { foreign::brassdozen_version() }
 }
 
-/// The word whose answer is the value of a row.
+/// Decodes a word into the first numbers of `row`. A refusal changes none of them.
+pub fn decode(word: u32, address: u64, row: &mut [u64]) -> Result<(), Refusal> {
+    done(unsafe { foreign::brassdozen_decode(word, address, row.as_mut_ptr(), row.len()) })
+}
+
+/// Decodes the first four bytes, low byte first, as `decode` does a word.
+pub fn decode_bytes(bytes: &[u8], address: u64, row: &mut [u64]) -> Result<(), Refusal> {
+    let (numbers, length) = (row.as_mut_ptr(), row.len());
+    done(unsafe {
+        foreign::brassdozen_decode_bytes(bytes.as_ptr(), bytes.len(), address, numbers, length)
+    })
+}
+
+/// The home word of the words whose answer has this row.
 pub fn encode(row: &[u64]) -> Result<u32, Refusal> {
     given(unsafe { foreign::brassdozen_encode(row.as_ptr(), row.len()) })
 }
@@ -87,6 +103,14 @@ pub fn listing(section: &[u8], out: &mut [u8]) -> Result<usize, Refusal> {
     given(number).map(|length| length as usize)
 }
 
+/// A refusal's number, or 0.
+fn done(refusal: u8) -> Result<(), Refusal> {
+    match refusal {
+        0 => Ok(()),
+        refusal => Err(Refusal(refusal)),
+    }
+}
+
 /// A refusal's number stands above 32 bits of result.
 fn given(number: u64) -> Result<u32, Refusal> {
     match (number >> 32) as u8 {
@@ -101,7 +125,15 @@ fn given(number: u64) -> Result<u32, Refusal> {
 /// aligned, and, where it is written, apart from all others until the function returns.
 mod foreign {
     unsafe extern "C" {
+        pub fn brassdozen_version() -> u32;
         pub fn brassdozen_decode(word: u32, address: u64, row: *mut u64, length: usize) -> u8;
+        pub fn brassdozen_decode_bytes(
+            bytes: *const u8,
+            count: usize,
+            address: u64,
+            row: *mut u64,
+            length: usize,
+        ) -> u8;
         pub fn brassdozen_encode(row: *const u64, length: usize) -> u64;
         pub fn brassdozen_home(word: u32) -> u64;
         pub fn brassdozen_line(address: u64, word: u32, out: *mut u8, length: usize) -> u64;

@@ -5,7 +5,10 @@
 use std::fs;
 use std::path::PathBuf;
 
-use brassdozen::{LINE, LISTING, ROW, Refusal, decode, encode, home, line, listing};
+use brassdozen::{
+    LINE, LISTING, ROW, Refusal, VERSION, decode, decode_bytes, encode, home, line, listing,
+    version,
+};
 
 /// What a buffer holds before a call.
 const UNTOUCHED: u8 = 0xa5;
@@ -142,6 +145,16 @@ fn digest(numbers: &[u64]) -> u64 {
 }
 
 #[test]
+fn the_library_is_of_this_version() {
+    let [major, minor, patch] = [VERSION / 10_000, VERSION / 100 % 100, VERSION % 100];
+    assert_eq!(
+        format!("{major}.{minor}.{patch}"),
+        env!("CARGO_PKG_VERSION")
+    );
+    assert_eq!(version(), VERSION);
+}
+
+#[test]
 fn rows_are_the_answers_of_the_rust() {
     for (address, word, stored, line) in stored_words() {
         let numbers = match decoded(word, address) {
@@ -248,6 +261,34 @@ fn a_row_is_written_whole_or_not_at_all() {
     }
 }
 
+/// The word of four bytes is the one with the low byte first, whatever stands after them.
+#[test]
+fn bytes_are_decoded_as_their_word() {
+    let mut random = Random(8);
+    for _ in 0..20_000 {
+        let (word, address) = (random.word(), random.address());
+        let mut bytes = word.to_le_bytes().to_vec();
+        bytes.extend(random.bits().to_le_bytes());
+        for count in 0..=bytes.len() {
+            for room in [0, ROW, ROW + 3] {
+                let mut expected = vec![UNTOUCHED_NUMBER; room];
+                let given = if count < 4 {
+                    Err(Refusal::SHORT)
+                } else {
+                    decode(word, address, &mut expected)
+                };
+                let mut row = vec![UNTOUCHED_NUMBER; room];
+                assert_eq!(
+                    decode_bytes(&bytes[..count], address, &mut row),
+                    given,
+                    "{word:08x}, {count}"
+                );
+                assert_eq!(row, expected, "{word:08x}, {count}");
+            }
+        }
+    }
+}
+
 /// What `write` leaves in a buffer with each of these rooms has to be `whole`, or nothing.
 fn whole_or_nothing(
     whole: &[u8],
@@ -282,7 +323,7 @@ fn a_line_is_written_whole_or_not_at_all() {
     }
 }
 
-/// A damaged row is refused, or its word is a home word whose row encodes to it too.
+/// A damaged row is refused, or it is the row of the home word that it gives.
 #[test]
 fn damaged_rows_are_refused_or_have_a_word() {
     let mut random = Random(5);
@@ -303,8 +344,7 @@ fn damaged_rows_are_refused_or_have_a_word() {
             Ok(word) => {
                 accepted += 1;
                 assert_eq!(home(word), Ok(word));
-                let again = decoded(word, row[0]).expect("a word that was given is accepted");
-                assert_eq!(encode(&again), Ok(word));
+                assert_eq!(decoded(word, row[0]), Ok(row), "{word:08x}");
             }
             Err(refusal) => {
                 refused += 1;
@@ -318,7 +358,32 @@ fn damaged_rows_are_refused_or_have_a_word() {
     );
 }
 
-/// Beyond a row's end there are zeros, and nothing after the 49th number is read.
+/// No number but the address has more than 63 bits, and none counts by its low bits alone.
+#[test]
+fn numbers_count_whole() {
+    let mut random = Random(9);
+    for _ in 0..20_000 {
+        let (word, address) = (random.word(), random.address());
+        let Ok(row) = decoded(word, address) else {
+            continue;
+        };
+        for place in 1..ROW {
+            for bit in [40, 63] {
+                let mut large = row;
+                large[place] += 1 << bit;
+                assert_eq!(encode(&large), Err(Refusal::NO_WORD), "{word:08x}, {place}");
+            }
+        }
+    }
+    let mut row = decoded(0xe082_1003, 0x8000).expect("add r1, r2, r3");
+    row[5 + 1] += 256;
+    assert_eq!(encode(&row), Err(Refusal::NO_WORD));
+    let mut row = decoded(0xe7f0_00f0, 0x8000).expect("udf");
+    assert_eq!(row[3], 7, "a trap");
+    row[3] = 200;
+    assert_eq!(encode(&row), Err(Refusal::NO_WORD));
+}
+
 /// `ssat` is to 1 to 32 bits and `usat` to 0 to 31, by 20:16.
 #[test]
 fn saturates_have_as_many_bits_as_their_field_can_say() {
@@ -335,6 +400,7 @@ fn saturates_have_as_many_bits_as_their_field_can_say() {
     }
 }
 
+/// Beyond a row's end there are zeros, and nothing after the 49th number is read.
 #[test]
 fn rows_of_every_length_encode() {
     let mut random = Random(6);

@@ -1,150 +1,34 @@
 -- The row that decoding writes reads back as the answer, and encodes to the word's home word; so rows differ where home words do. Assumes nothing.
 use mathlib.Core.Path.{_≡_, refl, sym, ap, _∙_, subst}
 use mathlib.Core.Bool.{Bool, true, false}
-use mathlib.Core.List.{List, [], _∷_, _++_}
+use mathlib.Core.List.{List, _++_}
 use mathlib.Core.Logic.{_↔_}
-use Prim.Native.Nat.{ℕ, _+_, _^_, _<_, _≤_}
+use Prim.Native.Nat.{ℕ, _+_, _^_, _<_}
 use native.Mathlib.Nat.{zero-add}
 use native.Mathlib.Omega.{arith}
 use borrow.Author.Tests.{eqb-true, eq-eqb}
 use lib.Dec.{eqb, leb}
-use lib.IntN.{ℤ, pos, negsuc, natAbs}
 use lib.ListN.{length, take, drop}
 use Rattle.word.specs.Choice.{pick}
-use Rattle.insn.specs.Answer.{places}
-use Rattle.insn.specs.Numbers.{flowTarget}
+use Rattle.insn.specs.Answer.{insnOf}
 use Rattle.insn.specs.declared.Decoded.{Decoded}
-use Rattle.insn.specs.declared.Flow.{Flow}
-use Rattle.insn.specs.declared.Flow.the-variants.{Next, Branch, CondBranch, IndirectBranch, Call, IndirectCall, Return, Trap}
-use Rattle.insn.specs.declared.Index.{Index}
-use Rattle.insn.specs.declared.Index.the-variants.{Absent, Left}
 use Rattle.insn.specs.declared.Insn.{Insn}
-use Rattle.insn.specs.declared.Operand.{Operand}
-use Rattle.insn.specs.declared.Operand.the-variants.{Empty, Register, Shifted, ShiftBy, SaturateShift, Rotate, Count, Number, StatusMask, StatusSource, WriteBack, List as RegisterList, Address, Memory, Option}
 use Rattle.insn.specs.declared.Place.{Place}
 use Rattle.a32.specs.Decode.{decodeOf}
 use Rattle.home.specs.Home.{homeOf}
 use Rattle.home.specs.Word.{wordOf}
+use Rattle.home.proofs.Address.{keeps-address}
 use Rattle.home.proofs.Same.{leads-home, same-answer}
-use Rattle.encode.specs.Encode.{encodeOf}
-use Rattle.encode.specs.declared.Encoded.{Encoded}
-use Rattle.encode.proofs.Encodes.{encodes-home}
 use Rattle.value.specs.Value.{insnFrom}
 use Rattle.packed.specs.Packed.{packed}
 use Rattle.text.specs.Text.{written}
 use Rattle.text.specs.Fits.{answerOf, lastOf}
 use Rattle.text.specs.declared.Written.{Written}
 use Rattle.row.specs.Row.{rowOf}
-use Rattle.row.proofs.Back as R
-use Rattle.row.proofs.Back.{magnitude, Narrow, Four, Fits, row-back}
-use Rattle.spelling.proofs.Formed.{Indexed, Sound, Laid, Aimed, targetIn, Formed}
-use Rattle.spelling.proofs.FormedAll.{all-good}
-use Rattle.brassdozen.specs.Given.{rowRefusal, rowLast, encodedOf}
-
--- the numbers of an accepted answer fit their types
-
-signed-narrow : (z : ℤ) → natAbs z < 2 ^ 32 → magnitude z < 2 ^ 63
-signed-narrow (pos n) h = omega arith
-signed-narrow (negsuc n) h = omega arith
-
-index-narrow : (x : Index) → Indexed x → R.Indexed x
-index-narrow Absent h = tt
-index-narrow (Left r n) h = (omega (arith, h .0), omega (arith, h .1))
-
-narrow : (last : Bool) (name : ℕ) (o : Operand) → Sound last name o → Narrow o
-narrow last name Empty h = tt
-narrow last name (Register r) h = omega arith
-narrow last name (Shifted r kind n) h = (omega (arith, h .0), omega (arith, h .1))
-narrow last name (ShiftBy kind r) h = omega arith
-narrow last name (SaturateShift kind n) h = omega (arith, h .1)
-narrow last name (Rotate n) h = omega arith
-narrow last name (Count z) h = signed-narrow z (h .1)
-narrow last name (Number n) h = h .1
-narrow last name (StatusMask n) h = omega arith
-narrow last name (StatusSource s) h = tt
-narrow last name (WriteBack r) h = omega arith
-narrow last name (RegisterList n) h = h
-narrow last name (Address n) h = h
-narrow last name (Memory m) h =
-    (omega (arith, h .1 .base), (index-narrow (m .index) (h .1 .index), (signed-narrow (m .disp) (omega (arith, h .1 .disp)), omega (arith, h .1 .size))))
-narrow last name (Option n) h = omega (arith, h .1)
-
--- the address at place 0, if one is there
-address-narrow : (last : Bool) (name : ℕ) (o : Operand) (os : List Operand) → Sound last name o → targetIn (o ∷ os) < 2 ^ 32
-address-narrow last name Empty os h = omega arith
-address-narrow last name (Register r) os h = omega arith
-address-narrow last name (Shifted r kind n) os h = omega arith
-address-narrow last name (ShiftBy kind r) os h = omega arith
-address-narrow last name (SaturateShift kind n) os h = omega arith
-address-narrow last name (Rotate n) os h = omega arith
-address-narrow last name (Count z) os h = omega arith
-address-narrow last name (Number n) os h = omega arith
-address-narrow last name (StatusMask n) os h = omega arith
-address-narrow last name (StatusSource s) os h = omega arith
-address-narrow last name (WriteBack r) os h = omega arith
-address-narrow last name (RegisterList n) os h = omega arith
-address-narrow last name (Address n) os h = h
-address-narrow last name (Memory m) os h = omega arith
-address-narrow last name (Option n) os h = omega arith
-
-places-narrow : (name : ℕ) (os : List Operand) → Laid name os → targetIn os < 2 ^ 32
-places-narrow name [] h = omega arith
-places-narrow name (o ∷ []) h = address-narrow true name o [] h
-places-narrow name (o ∷ p ∷ os) h = address-narrow false name o (p ∷ os) (h .0)
-
-target-narrow : (os : List Operand) (f : Flow) → targetIn os < 2 ^ 32 → Aimed os f → flowTarget f < 2 ^ 32
-target-narrow os Next h e = omega arith
-target-narrow os (Branch a) h e = omega (arith, e)
-target-narrow os (CondBranch a) h e = omega (arith, e)
-target-narrow os IndirectBranch h e = omega arith
-target-narrow os (Call a) h e = omega (arith, e)
-target-narrow os IndirectCall h e = omega arith
-target-narrow os Return h e = omega arith
-target-narrow os Trap h e = omega arith
-
-operands-narrow : (name : ℕ) (os : List Operand) → length os ≤ 4 → Laid name os → Four (places os)
-operands-narrow name [] few h = record { first = Empty; second = Empty; third = Empty; fourth = Empty; laid = refl; narrow = ((tt, tt), (tt, tt)) }
-operands-narrow name (a ∷ []) few h = record {
-  first = a;
-  second = Empty;
-  third = Empty;
-  fourth = Empty;
-  laid = refl;
-  narrow = ((narrow true name a h, tt), (tt, tt));
-}
-operands-narrow name (a ∷ b ∷ []) few h = record {
-  first = a;
-  second = b;
-  third = Empty;
-  fourth = Empty;
-  laid = refl;
-  narrow = ((narrow false name a (h .0), narrow true name b (h .1)), (tt, tt));
-}
-operands-narrow name (a ∷ b ∷ c ∷ []) few h = record {
-  first = a;
-  second = b;
-  third = c;
-  fourth = Empty;
-  laid = refl;
-  narrow = ((narrow false name a (h .0), narrow false name b (h .1 .0)), (narrow true name c (h .1 .1), tt));
-}
-operands-narrow name (a ∷ b ∷ c ∷ d ∷ []) few h = record {
-  first = a;
-  second = b;
-  third = c;
-  fourth = d;
-  laid = refl;
-  narrow = ((narrow false name a (h .0), narrow false name b (h .1 .0)), (narrow false name c (h .1 .1 .0), narrow true name d (h .1 .1 .1)));
-}
-operands-narrow name (a ∷ b ∷ c ∷ d ∷ e ∷ os) few h = absurd (omega (arith, few))
-
-answer-fits : {addr : ℕ} (i : Insn) → Formed addr i → Fits i
-answer-fits i f = record {
-  name = omega (arith, f .named);
-  cond = omega (arith, f .under);
-  target = target-narrow (f .operands) (i .flow) (places-narrow (i .name) (f .operands) (f .sound)) (f .aimed);
-  operands = subst (λ (ops : List Place). Four ops) (sym (f .laid)) (operands-narrow (i .name) (f .operands) (f .few) (f .sound));
-}
+use Rattle.row.proofs.Back.{Four, row-back}
+use Rattle.brassdozen.specs.Given.{rowRefusal, rowLast, whole, Answers, encodedOf}
+use Rattle.brassdozen.proofs.Fit.{fits}
+use Rattle.brassdozen.proofs.Exactly.{finds}
 
 -- where decoding gives 0, the word is accepted, and the row of its answer stands at the start of what was lent
 
@@ -175,14 +59,37 @@ pub reads-back : (w addr : ℕ) (out : List ℕ) → rowRefusal (decodeOf w addr
     → insnFrom (rowLast (decodeOf w addr) out) ≡ (decodeOf w addr) .insn
 reads-back w addr out e =
     let d = decodeOf w addr in
-    ap insnFrom (lays d out e) ∙ row-back (d .insn) (drop (length (rowOf (d .insn))) out) (answer-fits (d .insn) (all-good w addr .formed (accepts d out e)))
+    ap insnFrom (lays d out e) ∙ row-back (d .insn) (drop (length (rowOf (d .insn))) out) (fits w addr (accepts d out e))
+
+-- a value's row is the whole of it, whatever stands after it
+prefix : (i : Insn) (rest : List ℕ) → Four (i .ops) → rowOf i ≡ whole (rowOf i ++ rest)
+prefix i rest four = subst (λ (ops : List Place). rowOf (with ops) ≡ whole (rowOf (with ops) ++ rest)) (sym (four .laid)) refl
+  where
+    with : List Place → Insn
+    with ops = insnOf (i .addr) (i .name) (i .cond) (i .flow) ops
 
 -- and encodes to the home word
 pub goes-home : (w addr : ℕ) (out : List ℕ) → w < 2 ^ 32 → rowRefusal (decodeOf w addr) out ≡ 0
     → encodedOf (rowLast (decodeOf w addr) out) ≡ packed 0 (homeOf w)
-goes-home w addr out bound e =
-    ap (λ (x : Encoded). packed (x .refusal) (x .word))
-    (ap encodeOf (reads-back w addr out e) ∙ encodes-home w addr bound (accepts (decodeOf w addr) out e))
+goes-home w addr out bound e = ap encodedOf (lays d out e) ∙ finds w (rowOf (d .insn) ++ rest) bound answers
+  where
+    d : Decoded
+    d = decodeOf w addr
+
+    rest : List ℕ
+    rest = drop (length (rowOf (d .insn))) out
+
+    ok : d .refusal ≡ 0
+    ok = accepts d out e
+
+    there : decodeOf w (d .insn .addr) ≡ d
+    there = ap (decodeOf w) (keeps-address w addr ok)
+
+    answers : Answers w (rowOf (d .insn) ++ rest)
+    answers = record {
+      accepted = ap (λ (x : Decoded). x .refusal) there ∙ ok;
+      equal = ap (λ (x : Decoded). rowOf (x .insn)) there ∙ prefix (d .insn) rest (fits w addr ok .operands);
+    }
 
 -- different work, different rows
 pub rows-alike : (w v addr : ℕ) (out : List ℕ) → w < 2 ^ 32 → v < 2 ^ 32 → rowRefusal (decodeOf w addr) out ≡ 0 → rowRefusal (decodeOf v addr) out ≡ 0

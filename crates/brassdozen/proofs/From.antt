@@ -9,14 +9,27 @@ use lib.Dec.{leb}
 use lib.ListN.{length}
 use Rattle.word.specs.Choice.{pick}
 use Rattle.insn.specs.declared.Decoded.{Decoded}
+use Rattle.insn.specs.declared.Insn.{Insn}
+use Rattle.a32.specs.Decode.{decodeOf}
+use Rattle.words.specs.Candidate.{candidate}
+use Rattle.value.specs.Value.{insnFrom}
 use Rattle.text.specs.Fits.{answerOf}
 use Rattle.text.specs.declared.Written.{Written}
-use Rattle.brassdozen.specs.Given.{rowRefusal, rowLast}
+use Rattle.brassdozen.specs.Given.{rowRefusal, rowLast, checked, encodedOf}
 
 -- what decoding gives and leaves, from the answer as the specification names it
 pub from : {d d′ : Decoded} {r : ℕ} (out : List ℕ) {last : List ℕ} → d ≡ d′ → (r ≡ rowRefusal d out) × (last ≡ rowLast d out)
     → (r ≡ rowRefusal d′ out) × (last ≡ rowLast d′ out)
 from out e given = (given .0 ∙ ap (λ (d : Decoded). rowRefusal d out) e, given .1 ∙ ap (λ (d : Decoded). rowLast d out) e)
+
+-- what encoding gives, from the value that is read, the word that it leads to and that word's answer
+pub encoded : (row : List ℕ) {i : Insn} {w : ℕ} {d : Decoded} {r : ℕ} → i ≡ insnFrom row → w ≡ candidate i → d ≡ decodeOf w (i .addr)
+    → r ≡ checked row w d → r ≡ encodedOf row
+encoded row {i} {w} at-i at-w at-d is =
+    is
+    ∙ ap (checked row w) at-d
+    ∙ ap (λ (n : ℕ). checked row n (decodeOf n (i .addr))) at-w
+    ∙ ap (λ (j : Insn). checked row (candidate j) (decodeOf (candidate j) (j .addr))) at-i
 
 -- no more bytes are written than the text has
 pub no-longer : (text out : List ℕ) {w : Written} → w ≡ answerOf text out → w .len ≤ length text

@@ -2,14 +2,22 @@
 -- reads it from the source. Assumes nothing.
 use mathlib.Core.Path.{_≡_, _∙_, sym}
 use denote.Ref.{now}
+use Rattle.brassdozen.proofs.brassdozen_version.Reads as version
 use Rattle.brassdozen.proofs.brassdozen_decode.Reads as decode
+use Rattle.brassdozen.proofs.brassdozen_decode_bytes.Reads as decode-bytes
 use Rattle.brassdozen.proofs.brassdozen_encode.Reads as encode
 use Rattle.brassdozen.proofs.brassdozen_home.Reads as home
 use Rattle.brassdozen.proofs.brassdozen_line.Reads as line
 use Rattle.brassdozen.proofs.brassdozen_listing.Reads as listing
 
+pub version-only : (κs : _) (a : _) (r r′ : _) (s s′ : _) → version.Post κs a r s → version.Post κs a r′ s′ → r ≡ r′
+version-only κs a r r′ s s′ p q = p ∙ sym q
+
 pub decode-only : (κs : _) (a : _) (r r′ : _) (s s′ : _) → decode.Post κs a r s → decode.Post κs a r′ s′ → (r ≡ r′) × (now (s .1 .1 .0) ≡ now (s′ .1 .1 .0))
 decode-only κs a r r′ s s′ p q = (p .0 ∙ sym (q .0), p .1 ∙ sym (q .1))
+
+pub decode-bytes-only : (κs : _) (a : _) (r r′ : _) (s s′ : _) → decode-bytes.Post κs a r s → decode-bytes.Post κs a r′ s′ → (r ≡ r′) × (now (s .1 .1 .0) ≡ now (s′ .1 .1 .0))
+decode-bytes-only κs a r r′ s s′ p q = (p .0 ∙ sym (q .0), p .1 ∙ sym (q .1))
 
 pub encode-only : (κs : _) (a : _) (r r′ : _) (s s′ : _) → encode.Post κs a r s → encode.Post κs a r′ s′ → r ≡ r′
 encode-only κs a r r′ s s′ p q = p ∙ sym q

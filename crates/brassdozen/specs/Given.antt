@@ -1,14 +1,22 @@
 -- What the functions for other languages give and leave.
+use mathlib.Core.Path.{_≡_}
 use mathlib.Core.List.{List}
 use Prim.Native.Nat.{ℕ}
 use lib.Dec.{eqb}
-use Rattle.word.specs.Choice.{pick}
+use lib.ListN.{getD}
+use Rattle.word.specs.Choice.{pick, both}
 use Rattle.insn.specs.declared.Decoded.{Decoded}
-use Rattle.encode.specs.Encode.{encodeOf, homeAnswer}
+use Rattle.a32.specs.Decode.{decodeOf}
+use Rattle.words.specs.Candidate.{candidate}
+use Rattle.encode.specs.Encode.{homeAnswer}
 use Rattle.value.specs.Value.{insnFrom}
 use Rattle.packed.specs.Packed.{packed}
 use Rattle.text.specs.Fits.{answerOf, lastOf}
-use Rattle.row.specs.Row.{rowOf}
+use Rattle.row.specs.Row.{ROW, rowOf, numbersOf, holds}
+
+-- 1.0.0
+abbrev pub VERSION : ℕ
+VERSION = 10000
 
 -- an answer's refusal; or, of an accepted one, 10 if its row is longer than what is lent
 abbrev pub rowRefusal : Decoded → List ℕ → ℕ
@@ -18,9 +26,22 @@ rowRefusal d out = pick (eqb (d .refusal) 0) (answerOf (rowOf (d .insn)) out .re
 abbrev pub rowLast : Decoded → List ℕ → List ℕ
 rowLast d out = pick (eqb (d .refusal) 0) (lastOf (rowOf (d .insn)) out) out
 
--- a row's value, encoded
+-- the first numbers of a row, as many as a row has: beyond its end there are zeros
+abbrev pub whole : List ℕ → List ℕ
+whole row = numbersOf row 0 ROW
+
+-- the row is that of a word's answer at the address that stands in it
+pub record Answers (w : ℕ) (row : List ℕ) : Type 0 where
+  pub accepted : decodeOf w (getD row 0 0) .refusal ≡ 0
+  pub equal : rowOf (decodeOf w (getD row 0 0) .insn) ≡ whole row
+
+-- the word w, if its answer d has this row, or refusal 4
+abbrev pub checked : List ℕ → ℕ → Decoded → ℕ
+checked row w d = pick (both (eqb (d .refusal) 0) (holds row 0 (rowOf (d .insn)))) (packed 0 w) (packed 4 0)
+
+-- the word that the row's value leads to, if its answer at the row's address has this row; if it has not, no word's has (`encodes-exactly`)
 abbrev pub encodedOf : List ℕ → ℕ
-encodedOf row = packed (encodeOf (insnFrom row) .refusal) (encodeOf (insnFrom row) .word)
+encodedOf row = checked row (candidate (insnFrom row)) (decodeOf (candidate (insnFrom row)) (getD row 0 0))
 
 abbrev pub homedOf : ℕ → ℕ
 homedOf w = packed (homeAnswer w .refusal) (homeAnswer w .word)

@@ -1,19 +1,31 @@
 //! What programs in C and Rust call: numbers and slices alone cross such a call, so an instruction value goes as a row of numbers.
 //! `include/brassdozen.h` declares each function to C.
+use a32::SHORT;
 use a32::decode;
-use encode::encode;
+use encode::NO_WORD;
 use encode::home;
 use line::line;
 use listed::listing;
 use packed::pack;
+use row::is_row;
 use row::put_row;
 use value::insn_from;
+use word::word_at;
+use words::word_of;
 ghost use mathlib.Core.Path.{_≡_};
-ghost use Rattle.a32.specs.Decode.{decodeOf};
+ghost use Rattle.a32.specs.Decode.{decodeOf, decodeBytesOf};
 ghost use Rattle.text.specs.Fits.{answerOf, lastOf};
 ghost use Rattle.spelling.specs.Line.{lineOf};
 ghost use Rattle.listed.specs.Listing.{listingOf};
-ghost use Rattle.brassdozen.specs.Given.{rowRefusal, rowLast, encodedOf, homedOf, writtenOf};
+ghost use Rattle.brassdozen.specs.Given.{VERSION, rowRefusal, rowLast, encodedOf, homedOf, writtenOf};
+
+/// The library's version: 10,000 for each major one, 100 for each minor one, and one for each patch.
+#[no_mangle]
+pub extern "C" fn brassdozen_version() -> u32
+    ensures { λ r. ⌜ r ≡ VERSION ⌝ }
+{
+    10_000
+}
 
 /// Decodes `word` at `addr` into the row of its answer, and gives 0; or gives a refusal's number.
 #[no_mangle]
@@ -30,13 +42,36 @@ pub extern "C" fn brassdozen_decode(word: u32, addr: u64, row: &mut [u64]) -> u8
     }
 }
 
-/// The word of a row's value, with a refusal's number above it.
+/// Decodes the first four of `bytes` at `addr`, low byte first, as `brassdozen_decode` does a word.
+#[no_mangle]
+pub extern "C" fn brassdozen_decode_bytes(bytes: &[u8], addr: u64, row: &mut [u64]) -> u8
+    ensures { λ r. ⌜ r ≡ rowRefusal (decodeBytesOf (now (bytes .entry)) addr) (now (row .entry)) ⌝ }
+    ensures { λ _. ⌜ now (row .exit) ≡ rowLast (decodeBytesOf (now (bytes .entry)) addr) (now (row .entry)) ⌝ }
+{
+    if bytes.len() < 4 {
+        SHORT
+    } else {
+        brassdozen_decode(word_at(bytes, 0), addr, row)
+    }
+}
+
+/// The home word of the words whose row, at the address in it, `row` is, with a refusal's number above it.
 #[no_mangle]
 pub extern "C" fn brassdozen_encode(row: &[u64]) -> u64
     ensures { λ r. ⌜ r ≡ encodedOf (now (row .entry)) ⌝ }
 {
-    let e = encode(insn_from(row));
-    pack(e.refusal, e.word)
+    let i = insn_from(row);
+    let w = word_of(i);
+    let answer = decode(w, i.addr);
+    if answer.refusal == 0 {
+        if is_row(row, answer.insn) {
+            pack(0, w)
+        } else {
+            pack(NO_WORD, 0)
+        }
+    } else {
+        pack(NO_WORD, 0)
+    }
 }
 
 /// The home word of `word`, with a refusal's number above it.
