@@ -17,7 +17,7 @@ use Rattle.insn.specs.declared.Place.{Place}
 use Rattle.a32.specs.Decode.{decodeOf}
 use Rattle.home.specs.Home.{homeOf}
 use Rattle.home.specs.Word.{wordOf}
-use Rattle.home.proofs.Address.{keeps-address}
+use Rattle.a32.proofs.Elsewhere.{keeps-address}
 use Rattle.home.proofs.Same.{leads-home, same-answer}
 use Rattle.value.specs.Value.{insnFrom}
 use Rattle.packed.specs.Packed.{packed}

@@ -1,16 +1,16 @@
 //! What programs in C and Rust call: numbers and slices alone cross such a call, so an instruction value goes as a row of numbers.
 //! `include/brassdozen.h` declares each function to C.
-use a32::SHORT;
 use a32::decode;
+use a32::decode_bytes;
 use encode::NO_WORD;
 use encode::home;
+use insn::Decoded;
 use line::line;
 use listed::listing;
 use packed::pack;
 use row::is_row;
 use row::put_row;
 use value::insn_from;
-use word::word_at;
 use words::word_of;
 ghost use mathlib.Core.Path.{_≡_};
 ghost use Rattle.a32.specs.Decode.{decodeOf, decodeBytesOf};
@@ -33,13 +33,7 @@ pub extern "C" fn brassdozen_decode(word: u32, addr: u64, row: &mut [u64]) -> u8
     ensures { λ r. ⌜ r ≡ rowRefusal (decodeOf word addr) (now (row .entry)) ⌝ }
     ensures { λ _. ⌜ now (row .exit) ≡ rowLast (decodeOf word addr) (now (row .entry)) ⌝ }
 {
-    let d = decode(word, addr);
-    if d.refusal == 0 {
-        let written = put_row(row, d.insn);
-        written.refusal
-    } else {
-        d.refusal
-    }
+    put_answer(row, decode(word, addr))
 }
 
 /// Decodes the first four of `bytes` at `addr`, low byte first, as `brassdozen_decode` does a word.
@@ -48,10 +42,18 @@ pub extern "C" fn brassdozen_decode_bytes(bytes: &[u8], addr: u64, row: &mut [u6
     ensures { λ r. ⌜ r ≡ rowRefusal (decodeBytesOf (now (bytes .entry)) addr) (now (row .entry)) ⌝ }
     ensures { λ _. ⌜ now (row .exit) ≡ rowLast (decodeBytesOf (now (bytes .entry)) addr) (now (row .entry)) ⌝ }
 {
-    if bytes.len() < 4 {
-        SHORT
+    put_answer(row, decode_bytes(bytes, addr))
+}
+
+fn put_answer(row: &mut [u64], d: Decoded) -> u8
+    ensures { λ r. ⌜ r ≡ rowRefusal d (now (row .entry)) ⌝ }
+    ensures { λ _. ⌜ now (row .exit) ≡ rowLast d (now (row .entry)) ⌝ }
+{
+    if d.refusal == 0 {
+        let written = put_row(row, d.insn);
+        written.refusal
     } else {
-        brassdozen_decode(word_at(bytes, 0), addr, row)
+        d.refusal
     }
 }
 
