@@ -39,7 +39,7 @@ MADE = re.compile(r"^fn \w+::(\S+): no proof: .*?`search` does not close (.*)$",
 FOLLOWS = re.compile(r"was not admitted|cannot be checked")
 # the proof names what is no longer there, and nothing is said of a fact
 NAMES = re.compile(r"has no `|has no field|not in scope|not defined|too many|too few|unknown|not a function|this pattern needs")
-SAFETY = re.compile(r"(add|sub|mul|div|rem|shl|shr|neg|cast|index|array|slice|same-length|loop-less|enum)\b|.*-requires(-\d+)?$")
+SAFETY = re.compile(r"(add|sub|mul|div|rem|shl|shr|neg|cast|slice|shared|array|element|index|part|way|enum)-|same-length|.*-(requires|less)(-\d+)?$")
 STRONGEST = ("contract", "theorem", "safety", "text")
 
 
