@@ -3,8 +3,9 @@ use mathlib.Core.Path.{_≡_, refl, sym, ap, ap₂, _∙_}
 use mathlib.Core.Bool.{Bool, true, false}
 use mathlib.Core.List.{List, [], _∷_, _++_}
 use mathlib.Core.Logic.{_↔_}
-use Prim.Native.Nat.{ℕ, zero, suc, _+_}
+use Prim.Native.Nat.{ℕ, zero, suc, _+_, _<_}
 use native.Mathlib.Nat.{add-zero, add-suc, suc-add}
+use native.Mathlib.Omega.{arith}
 use borrow.Author.Tests.{eqb-true, eq-eqb}
 use lib.Dec.{eqb}
 use lib.ListN.{length, getD}
@@ -43,3 +44,9 @@ holds-exactly row p xs = (equal row p xs, λ e. rw e (itself row p (length xs)))
     itself : (row : List ℕ) (p n : ℕ) → holds row p (numbersOf row p n) ≡ true
     itself row p zero = refl
     itself row p (suc n) = simp (eq-eqb (getD row p 0) (getD row p 0) refl) (itself row (suc p) n)
+
+-- rows with equal numbers, as far as they are compared, are told alike
+pub alike : (row row′ : List ℕ) (p : ℕ) (xs : List ℕ) → ((k : ℕ) → k < p + length xs → getD row′ k 0 ≡ getD row k 0) → holds row′ p xs ≡ holds row p xs
+alike row row′ p [] h = refl
+alike row row′ p (x ∷ xs) h =
+    ap₂ both (ap (λ (n : ℕ). eqb n x) (h p (omega arith))) (alike row row′ (suc p) xs (λ k below. h k (omega arith)))

@@ -10,11 +10,12 @@ use text::Written;
 use value::number;
 ghost use mathlib.Core.Path.{_≡_};
 ghost use mathlib.Core.List.{[], _∷_};
-ghost use Prim.Native.Nat.{_≤_, _<_};
+ghost use Prim.Native.Nat.{ℕ, _≤_, _<_};
+ghost use lib.ListN.{length, getD};
 ghost use Rattle.parts.specs.Operands.{plainFlat};
 ghost use Rattle.text.specs.Fits.{answerOf, lastOf};
 ghost use Rattle.text.specs.Put.{Room, Put};
-ghost use Rattle.row.specs.Row.{firstRow, lastRow, flatRow, operandRow, placesRow, rowOf, holds, Told};
+ghost use Rattle.row.specs.Row.{ROW, firstRow, lastRow, flatRow, operandRow, placesRow, rowOf, holds, Told};
 
 /// How many numbers a row has: five, and eleven for each operand.
 pub const ROW: usize = 5 + 11 * PLACES;
@@ -129,6 +130,32 @@ fn put_number(out: &mut [u64], at: usize, x: u64) -> usize
 pub fn is_row(row: &[u64], i: Insn) -> bool
     ensures { λ r. ⌜ r ≡ holds (now (row .entry)) 0 (rowOf i) ⌝ }
 {
+    if ROW <= row.len() {
+        has_insn(row, i)
+    } else {
+        let whole = padded(row);
+        has_insn(&whole, i)
+    }
+}
+
+/// The first numbers of a row, as many as a row has.
+fn padded(row: &[u64]) -> [u64; ROW]
+    ensures { λ r. ⌜ length r ≡ ROW ⌝ }
+    ensures { λ r. ⌜ ((k : ℕ) → k < ROW → getD r k 0 ≡ getD (now (row .entry)) k 0) ⌝ }
+{
+    let mut whole = [0; ROW];
+    let mut n = 0;
+    while n < ROW {
+        whole[n] = number(row, n);
+        n += 1;
+    }
+    whole
+}
+
+fn has_insn(row: &[u64], i: Insn) -> bool
+    requires { ⌜ Room (now row) 0 (rowOf i) ⌝ }
+    ensures { λ r. ⌜ Told (now (row .entry)) 0 (rowOf i) r ⌝ }
+{
     let cond = i.cond;
     let flow = i.flow;
     let ops = i.ops;
@@ -144,6 +171,7 @@ pub fn is_row(row: &[u64], i: Insn) -> bool
 }
 
 fn has_places(row: &[u64], ops: [Place; PLACES]) -> bool
+    requires { ⌜ Room (now row) 5 (placesRow ops) ⌝ }
     ensures { λ r. ⌜ Told (now (row .entry)) 5 (placesRow ops) r ⌝ }
 {
     let a = ops[0];
@@ -171,7 +199,7 @@ fn has_places(row: &[u64], ops: [Place; PLACES]) -> bool
 
 /// Most operands are of the first two kinds: what they have no number for is compared with zeros, for speed.
 fn has_operand(row: &[u64], at: usize, o: Operand) -> bool
-    requires { ⌜ at < 128 ⌝ }
+    requires { ⌜ Room (now row) at (operandRow o) ⌝ }
     ensures { λ r. ⌜ Told (now (row .entry)) at (operandRow o) r ⌝ }
 {
     match o {
@@ -201,7 +229,7 @@ fn bare(kind: u8, reg: u8) -> Flat
 }
 
 fn has_flat(row: &[u64], at: usize, f: Flat) -> bool
-    requires { ⌜ at < 128 ⌝ }
+    requires { ⌜ Room (now row) at (flatRow f) ⌝ }
     requires { ⌜ f .negative ≤ f .value ⌝ }
     ensures { λ r. ⌜ Told (now (row .entry)) at (flatRow f) r ⌝ }
 {
@@ -213,7 +241,7 @@ fn has_flat(row: &[u64], at: usize, f: Flat) -> bool
 }
 
 fn has_first(row: &[u64], at: usize, f: Flat) -> bool
-    requires { ⌜ at < 128 ⌝ }
+    requires { ⌜ Room (now row) at (firstRow f) ⌝ }
     requires { ⌜ f .negative ≤ f .value ⌝ }
     ensures { λ r. ⌜ Told (now (row .entry)) at (firstRow f) r ⌝ }
 {
@@ -226,7 +254,7 @@ fn has_first(row: &[u64], at: usize, f: Flat) -> bool
 }
 
 fn has_last(row: &[u64], at: usize, f: Flat) -> bool
-    requires { ⌜ at < 256 ⌝ }
+    requires { ⌜ Room (now row) at (lastRow f) ⌝ }
     ensures { λ r. ⌜ Told (now (row .entry)) at (lastRow f) r ⌝ }
 {
     let minus = f.minus as u64;
@@ -238,7 +266,7 @@ fn has_last(row: &[u64], at: usize, f: Flat) -> bool
 }
 
 fn has_three(row: &[u64], at: usize, x: u64, y: u64, z: u64) -> bool
-    requires { ⌜ at < 512 ⌝ }
+    requires { ⌜ Room (now row) at (x ∷ y ∷ z ∷ []) ⌝ }
     ensures { λ r. ⌜ Told (now (row .entry)) at (x ∷ y ∷ z ∷ []) r ⌝ }
 {
     if has_two(row, at, x, y) {
@@ -249,7 +277,7 @@ fn has_three(row: &[u64], at: usize, x: u64, y: u64, z: u64) -> bool
 }
 
 fn has_two(row: &[u64], at: usize, x: u64, y: u64) -> bool
-    requires { ⌜ at < 1024 ⌝ }
+    requires { ⌜ Room (now row) at (x ∷ y ∷ []) ⌝ }
     ensures { λ r. ⌜ Told (now (row .entry)) at (x ∷ y ∷ []) r ⌝ }
 {
     if has(row, at, x) {
@@ -260,7 +288,8 @@ fn has_two(row: &[u64], at: usize, x: u64, y: u64) -> bool
 }
 
 fn has(row: &[u64], at: usize, x: u64) -> bool
+    requires { ⌜ Room (now row) at (x ∷ []) ⌝ }
     ensures { λ r. ⌜ Told (now (row .entry)) at (x ∷ []) r ⌝ }
 {
-    number(row, at) == x
+    row[at] == x
 }

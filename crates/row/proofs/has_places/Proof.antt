@@ -1,9 +1,11 @@
 -- `row::has_places` meets its contract. Assumes nothing.
 use borrow.Author.Needs.{needs}
 use mathlib.Core.Path.{_≡_}
+use native.Mathlib.Omega.{arith}
 use lib.ListN.{length}
+use Rattle.row.specs.Row.{placesRow}
 use Rattle.row.proofs.Holds.{on, off}
-use Rattle.row.proofs.Sizes.{in-turn}
+use Rattle.row.proofs.Sizes.{in-turn, places-size}
 use Rattle.row.proofs.has_places.Statement.{statement}
 use Rattle.row.proofs.has_places.Tie as tie
 use Rattle.row.proofs.has_places.Reads as reads
@@ -12,6 +14,9 @@ use Rattle.row.proofs.has_operand.Reads as has-operand
 
 four : (c : lts.Start (has-operand.Asked, has-operand.Learnt) reads.Pre reads.Post) → length (c .args .t2) ≡ 4
 four c = c .good .1 .0 .1 .0 .1
+
+size : (c : lts.Start (has-operand.Asked, has-operand.Learnt) reads.Pre reads.Post) → length (placesRow (c .args .t2)) ≡ 44
+size c = places-size (c .args .t2) (four c)
 
 array-copy-out-a : tie.Need-array-copy-out-a
 array-copy-out-a c = search needs
@@ -26,16 +31,16 @@ array-copy-out-d : tie.Need-array-copy-out-d
 array-copy-out-d c = search needs
 
 has-operand-requires : tie.Need-has-operand-requires
-has-operand-requires c κs = search needs
+has-operand-requires c κs = let start = c .before .before .before .before .before in omega (arith, start .pre, size start)
 
 has-operand-requires-2 : tie.Need-has-operand-requires-2
-has-operand-requires-2 c κs = search needs
+has-operand-requires-2 c κs = let start = c .before .before .before .before .before .before .before in omega (arith, start .pre, size start)
 
 has-operand-requires-3 : tie.Need-has-operand-requires-3
-has-operand-requires-3 c κs = search needs
+has-operand-requires-3 c κs = let start = c .before .before .before .before .before .before .before .before .before in omega (arith, start .pre, size start)
 
 has-operand-requires-4 : tie.Need-has-operand-requires-4
-has-operand-requires-4 c κs = search needs
+has-operand-requires-4 c κs = let start = c .before .before .before .before .before .before .before .before .before .before .before in omega (arith, start .pre, size start)
 
 returns : tie.Need-returns
 returns c =

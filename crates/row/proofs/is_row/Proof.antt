@@ -1,75 +1,51 @@
--- `row::is_row` meets its contract. Assumes nothing.
+-- `row::is_row` meets its contract: a row that is too short has the numbers of the one that is compared in its place. Assumes nothing.
 use borrow.Author.Needs.{needs}
-use lib.ListN.{drop}
+use mathlib.Core.Path.{_≡_, _∙_}
+use native.Mathlib.Omega.{arith}
+use lib.ListN.{length, length-map}
+use denote.Ref.{now}
 use Rattle.row.specs.Row.{rowOf}
-use Rattle.row.proofs.Holds.{on, off}
+use Rattle.row.proofs.Holds.{alike}
+use Rattle.row.proofs.Sizes.{row-size}
 use Rattle.row.proofs.is_row.Statement.{statement}
 use Rattle.row.proofs.is_row.Tie as tie
+use Rattle.row.proofs.is_row.Lts as lts
+use Rattle.row.proofs.is_row.Reads as reads
+use Rattle.row.proofs.has_insn.Reads as has-insn
+use Rattle.row.proofs.padded.Reads as padded
 
-cast-has-three : tie.Need-cast-has-three
-cast-has-three c = search needs
+size : (c : lts.Start (has-insn.Asked, has-insn.Learnt, padded.Asked, padded.Learnt) reads.Pre reads.Post) → length (rowOf (c .args .i)) ≡ 49
+size c = row-size (c .args .i) (simp length-map at (c .good .1 .0 .1 .1 .1 .1 .1 .1 .0 .1 .0 .1))
 
-cast-has-three-2 : tie.Need-cast-has-three-2
-cast-has-three-2 c = search needs
+has-insn-requires : tie.Need-has-insn-requires
+has-insn-requires c κs = omega (arith, c .if1 .taken, size (c .before .before))
 
-has-three-requires : tie.Need-has-three-requires
-has-three-requires c κs = search needs
+padded-requires : tie.Need-padded-requires
+padded-requires c κs = search needs
 
-number-requires : tie.Need-number-requires
-number-requires c κs = search needs
+slice-aggregate-has-insn : tie.Need-slice-aggregate-has-insn
+slice-aggregate-has-insn c = search needs
 
-cast-has-two : tie.Need-cast-has-two
-cast-has-two c = search needs
-
-target-requires : tie.Need-target-requires
-target-requires c κs = search needs
-
-cast-has-two-2 : tie.Need-cast-has-two-2
-cast-has-two-2 c = search needs
-
-has-two-requires : tie.Need-has-two-requires
-has-two-requires c κs = search needs
-
-has-places-requires : tie.Need-has-places-requires
-has-places-requires c κs = search needs
+has-insn-requires-2 : tie.Need-has-insn-requires-2
+has-insn-requires-2 c κs = omega (arith, c .before .padded .ensures .0, size (c .before .before .before .before))
 
 returns : tie.Need-returns
-returns c =
-    let second = c .before .before in
-    let first = second .before .before .before .before in
-    rw (← second .before .target .ensures, ← second .before .before .number .ensures)
-    (on (first .has-three .ensures) (second .before .before .before .if1 .taken)
-    (on (second .has-two .ensures) (c .before .if2 .taken) (c .has-places .ensures))
-    .is)
+returns c = search needs
 
 returns-2 : tie.Need-returns-2
 returns-2 c =
-    let second = c .before in
-    let first = second .before .before .before .before in
-    let start = first .before .before .before .before .before .before in
-    rw (← second .before .target .ensures, ← second .before .before .number .ensures)
-    (on (first .has-three .ensures) (second .before .before .before .if1 .taken)
-    (off (drop 5 (rowOf (start .args .i))) (second .has-two .ensures) (c .if2 .left))
-    .is)
-
-returns-3 : tie.Need-returns-3
-returns-3 c =
-    let start = c .before .before .before .before .before .before .before in
-    off (drop 3 (rowOf (start .args .i))) (c .before .has-three .ensures) (c .if1 .left) .is
+    let start = c .before .before .before .before .before in
+    c .has-insn2 .ensures .is
+    ∙ alike (now (start .args .row)) (c .before .before .padded .result) 0 (rowOf (start .args .i))
+    (λ k below. c .before .before .padded .ensures .1 k (omega (arith, size start)))
 
 pub is-row-spec : {M : Type 1} → statement M
 is-row-spec =
     tie.close
     (tie.spec
-    cast-has-three
-    cast-has-three-2
-    has-three-requires
-    number-requires
-    cast-has-two
-    target-requires
-    cast-has-two-2
-    has-two-requires
-    has-places-requires
+    has-insn-requires
+    padded-requires
+    slice-aggregate-has-insn
+    has-insn-requires-2
     returns
-    returns-2
-    returns-3)
+    returns-2)
