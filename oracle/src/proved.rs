@@ -14,8 +14,8 @@ pub struct Proved {
     pub trip: extern "C" fn(word: u32, address: u64) -> u64,
     /// Decodes a word at an address. Gives the refusal; the row of an accepted word is written.
     pub decode: fn(word: u32, address: u64, row: &mut Row) -> u8,
-    /// Encodes the value of a row. Gives what `Coded::of` reads.
-    pub encode: fn(row: &Row) -> u64,
+    /// Encodes a row, of any length. Gives what `Coded::of` reads.
+    pub encode: fn(row: &[u64]) -> u64,
     /// Writes the listing of a section to the start of `out`. Gives what `Coded::of` reads, with a
     /// length in the word's place.
     pub listing: fn(section: &[u8], out: &mut [u8]) -> u64,
@@ -90,7 +90,7 @@ mod linked {
         unsafe { brassdozen_decode(word, address, row.as_mut_ptr(), row.len()) }
     }
 
-    pub fn encode(row: &Row) -> u64 {
+    pub fn encode(row: &[u64]) -> u64 {
         unsafe { brassdozen_encode(row.as_ptr(), row.len()) }
     }
 

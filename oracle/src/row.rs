@@ -1,5 +1,5 @@
 //! An instruction value as the row of numbers that `brassdozen_encode` takes. What each place of the row
-//! means is in crates/value/specs/Value.antt.
+//! means is in include/brassdozen.h.
 
 use crate::answer::{Index, Instruction, Memory, Operand, PLACES};
 
@@ -7,16 +7,31 @@ use crate::answer::{Index, Instruction, Memory, Operand, PLACES};
 const HEAD: usize = 5;
 const OPERAND: usize = 11;
 
-pub type Row = [u64; HEAD + PLACES * OPERAND];
+const ROW: usize = HEAD + PLACES * OPERAND;
+
+pub type Row = [u64; ROW];
 
 /// Where the name, the condition and the flow stand.
 pub const NAME: usize = 1;
 pub const CONDITION: usize = 2;
 pub const FLOW: usize = 3;
 
+/// Where a number chooses one of a few: the flow, and of each operand the kind, the shift's kind or the
+/// like, the sign, the mode and the two marks.
+pub const CHOICES: [usize; 1 + PLACES * 6] = {
+    let mut choices = [FLOW; 1 + PLACES * 6];
+    let mut choice = 1;
+    while choice < choices.len() {
+        let (place, number) = ((choice - 1) / 6, [0, 2, 4, 7, 9, 10][(choice - 1) % 6]);
+        choices[choice] = HEAD + place * OPERAND + number;
+        choice += 1;
+    }
+    choices
+};
+
 /// The row of a value.
 pub fn row(value: &Instruction) -> Row {
-    let mut row = [0; HEAD + PLACES * OPERAND];
+    let mut row = [0; ROW];
     let (head, operands) = row.split_at_mut(HEAD);
     let [flow, target] = value.flow.numbers();
     head.copy_from_slice(&[
@@ -28,6 +43,15 @@ pub fn row(value: &Instruction) -> Row {
     ]);
     for (numbers, &operand) in operands.chunks_exact_mut(OPERAND).zip(&value.operands) {
         numbers.copy_from_slice(&operand_row(operand));
+    }
+    row
+}
+
+/// What of a row of any length is read: beyond its end there are zeros.
+pub fn padded(numbers: &[u64]) -> Row {
+    let mut row = [0; ROW];
+    for (to, from) in row.iter_mut().zip(numbers) {
+        *to = *from;
     }
     row
 }
@@ -95,7 +119,7 @@ fn signed(number: i64) -> [u64; 2] {
 
 #[cfg(test)]
 mod tests {
-    use super::row;
+    use super::{CHOICES, ROW, padded, row};
     use crate::answer::{Flow, Index, Instruction, Memory, Mode, Operand};
 
     #[test]
@@ -134,5 +158,22 @@ mod tests {
         assert_eq!(row[27..38], [14, 0, 0, 15, 0, 0, 0, 0, 0, 0, 0]);
         let most = (1 << 63) - 1;
         assert_eq!(row[38..], [13, 13, 1, 2, 1, most, 12, 2, 8, 1, 0]);
+    }
+
+    #[test]
+    fn rows_of_every_length_are_padded() {
+        let numbers: Vec<u64> = (1..=60).collect();
+        for length in 0..numbers.len() {
+            let row = padded(&numbers[..length]);
+            let kept = length.min(ROW);
+            assert_eq!(row[..kept], numbers[..kept]);
+            assert!(row[kept..].iter().all(|&number| number == 0));
+        }
+    }
+
+    #[test]
+    fn choices_stand_in_their_places() {
+        assert_eq!(CHOICES[..8], [3, 5, 7, 9, 12, 14, 15, 16]);
+        assert_eq!(CHOICES[24], ROW - 1);
     }
 }

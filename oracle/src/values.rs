@@ -1,5 +1,5 @@
-//! Instruction values given to the proved encoder, most of them no word's answer. What it accepts
-//! has to decode to the value, and a word's answer it has to accept.
+//! Rows given to the proved encoder, of instruction values and of none, most of them no word's
+//! answer. What it accepts has to decode to the row, and the row of a word's answer it has to accept.
 
 use std::fmt::{self, Display, Formatter};
 use std::iter::Sum;
@@ -8,13 +8,14 @@ use std::ops::Range;
 use crate::answer::{Answer, Instruction};
 use crate::cores::on_every_core;
 use crate::damage::Damage;
+use crate::damaged_row::RowDamage;
 use crate::home::home;
 use crate::made;
 use crate::oracle::Oracle;
 use crate::proved::{Coded, Proved};
 use crate::random::Random;
 use crate::reports::Reports;
-use crate::row::row;
+use crate::row::{padded, row};
 
 /// How many values a core takes at a time.
 const UNIT: usize = 65_536;
@@ -25,6 +26,7 @@ enum Origin {
     Nothing,
     Damaged(Damage),
     DamagedTwice,
+    DamagedRow(RowDamage),
     /// An answer before it is damaged, which is not among the values that are counted.
     Undamaged,
 }
@@ -62,6 +64,7 @@ pub struct Tally {
     nothing: Outcomes,
     damaged: [Outcomes; Damage::ALL.len()],
     damaged_twice: Outcomes,
+    damaged_rows: [Outcomes; RowDamage::ALL.len()],
     undamaged: Outcomes,
 }
 
@@ -71,6 +74,7 @@ impl Tally {
             Origin::Nothing => &mut self.nothing,
             Origin::Damaged(damage) => &mut self.damaged[damage as usize],
             Origin::DamagedTwice => &mut self.damaged_twice,
+            Origin::DamagedRow(damage) => &mut self.damaged_rows[damage as usize],
             Origin::Undamaged => &mut self.undamaged,
         }
     }
@@ -84,6 +88,9 @@ impl Sum for Tally {
             nothing: both(total.nothing, tally.nothing),
             damaged: std::array::from_fn(|kind| both(total.damaged[kind], tally.damaged[kind])),
             damaged_twice: both(total.damaged_twice, tally.damaged_twice),
+            damaged_rows: std::array::from_fn(|kind| {
+                both(total.damaged_rows[kind], tally.damaged_rows[kind])
+            }),
             undamaged: both(total.undamaged, tally.undamaged),
         })
     }
@@ -104,8 +111,11 @@ impl Display for Tally {
             line(outcomes, damage.describe())?;
         }
         line(self.damaged_twice, "two of these")?;
+        for (damage, outcomes) in RowDamage::ALL.into_iter().zip(self.damaged_rows) {
+            line(outcomes, damage.describe())?;
+        }
         line(self.nothing, "from nothing")?;
-        let damaged = self.damaged.into_iter();
+        let damaged = self.damaged.into_iter().chain(self.damaged_rows);
         let all: Outcomes = damaged.chain([self.damaged_twice, self.nothing]).sum();
         writeln!(f, "{} values", self.made)?;
         writeln!(f, "{} accepted", all.accepted)?;
@@ -147,22 +157,30 @@ impl Trial {
     /// Makes the value with this number, half of them from nothing, and tries it.
     fn value(&self, oracle: &mut Oracle, index: u64, tally: &mut Tally) {
         let mut random = Random::new(self.seed, index);
-        let mut give = |oracle: &mut Oracle, origin, value: &Instruction, expected| {
-            let coded = Coded::of((self.proved.encode)(&row(value)));
+        let mut give = |oracle: &mut Oracle, origin, row: &[u64], expected| {
+            let coded = Coded::of((self.proved.encode)(row));
             tally.of(origin).add(coded);
-            if let Err(how) = check(oracle, value, coded, expected) {
+            if let Err(how) = check(oracle, row, coded, expected) {
                 self.failures
-                    .add(|| format!("value {index}, {origin:?}: {how}: {value:x?}"));
+                    .add(|| format!("value {index}, {origin:?}: {how}: {row:x?}"));
             }
         };
         if index.is_multiple_of(2) {
-            return give(oracle, Origin::Nothing, &made::value(&mut random), None);
+            let value = made::value(&mut random);
+            return give(oracle, Origin::Nothing, &row(&value), None);
         }
         let (word, answer) = accepted(oracle, &mut random);
-        let home = home(word);
-        give(oracle, Origin::Undamaged, &answer, Some(home));
-        let (origin, damaged) = damage(answer, &mut random);
-        let expected = (damaged == answer).then_some(home);
+        let (home, whole) = (home(word), row(&answer));
+        give(oracle, Origin::Undamaged, &whole, Some(home));
+        let (origin, damaged) = if random.one_in(3) {
+            let damage = random.pick(&RowDamage::ALL);
+            let damaged = damage.apply(&whole, &mut random);
+            (Origin::DamagedRow(damage), damaged)
+        } else {
+            let (origin, damaged) = damage(answer, &mut random);
+            (origin, row(&damaged).to_vec())
+        };
+        let expected = (padded(&damaged) == whole).then_some(home);
         give(oracle, origin, &damaged, expected);
     }
 }
@@ -198,11 +216,11 @@ fn damage_once(value: &mut Instruction, random: &mut Random) -> Damage {
     }
 }
 
-/// `expected` is the value's word, where it is known to have one. A word has to be its own home, at
-/// which the value is the answer; a refusal has to be number 4.
+/// `expected` is the row's word, where it is known to have one. A word has to be its own home, whose
+/// answer at the row's address has the row; a refusal has to be number 4.
 fn check(
     oracle: &mut Oracle,
-    value: &Instruction,
+    numbers: &[u64],
     coded: Coded,
     expected: Option<u32>,
 ) -> Result<(), String> {
@@ -218,8 +236,10 @@ fn check(
             Err(format!("gives {coded}, not refused 4"))
         };
     }
-    if oracle.answer(coded.word, value.address) != Answer::Accepted(*value) {
-        return Err(format!("gives {coded}, which has another answer"));
+    let whole = padded(numbers);
+    match oracle.answer(coded.word, whole[0]) {
+        Answer::Accepted(answer) if row(&answer) == whole => {}
+        _ => return Err(format!("gives {coded}, which has another row")),
     }
     if home(coded.word) != coded.word {
         return Err(format!("gives {coded}, which is no home word"));
