@@ -1,7 +1,7 @@
 //! Ways to damage a row of numbers: into what is the row of no value, most of the time.
 
 use crate::random::Random;
-use crate::row::{CHOICES, Row};
+use crate::row::{CHOICES, Row, width};
 
 /// A way to damage a row.
 #[derive(Debug, Clone, Copy, PartialEq, Eq)]
@@ -25,9 +25,9 @@ impl RowDamage {
 
     pub fn describe(self) -> &'static str {
         match self {
-            RowDamage::Large => "a number beyond the width of its type",
-            RowDamage::Choice => "a flow, kind, sign, mode or mark that there is not",
-            RowDamage::Filled => "a number where the kind has none",
+            RowDamage::Large => "a number with more bits than in any answer",
+            RowDamage::Choice => "another flow, kind, sign, mode or mark, few that there are",
+            RowDamage::Filled => "a number in the place of a zero",
             RowDamage::Short => "a row cut short",
             RowDamage::Long => "numbers after the last",
         }
@@ -40,9 +40,9 @@ impl RowDamage {
             RowDamage::Large => {
                 // Not the address, which has all 64 bits.
                 let place = 1 + random.place_below(row.len() - 1);
-                let any = random.below(64);
-                let bit = random.pick(&[8, 8, 16, 32, 63, any]);
-                row[place] = row[place].wrapping_add(1 << bit);
+                let width = width(place);
+                let any = width + random.below(64 - width);
+                row[place] += 1 << random.pick(&[width, 63, any]);
             }
             RowDamage::Choice => {
                 let any = random.bits();

@@ -11,10 +11,22 @@ const ROW: usize = HEAD + PLACES * OPERAND;
 
 pub type Row = [u64; ROW];
 
-/// Where the name, the condition and the flow stand.
+/// Where the name, the condition, the flow and its target stand.
 pub const NAME: usize = 1;
 pub const CONDITION: usize = 2;
 pub const FLOW: usize = 3;
+const TARGET: usize = 4;
+
+/// How many bits a number has in any answer, at most.
+pub fn width(place: usize) -> u64 {
+    match place {
+        0 => 64,
+        NAME => 16,
+        TARGET => 32,
+        _ if place > TARGET && (place - HEAD) % OPERAND == 5 => 32,
+        _ => 8,
+    }
+}
 
 /// Where a number chooses one of a few: the flow, and of each operand the kind, the shift's kind or the
 /// like, the sign, the mode and the two marks.
@@ -119,7 +131,7 @@ fn signed(number: i64) -> [u64; 2] {
 
 #[cfg(test)]
 mod tests {
-    use super::{CHOICES, ROW, padded, row};
+    use super::{CHOICES, ROW, padded, row, width};
     use crate::answer::{Flow, Index, Instruction, Memory, Mode, Operand};
 
     #[test]
@@ -172,8 +184,11 @@ mod tests {
     }
 
     #[test]
-    fn choices_stand_in_their_places() {
+    fn choices_and_widths_are_those_of_their_places() {
         assert_eq!(CHOICES[..8], [3, 5, 7, 9, 12, 14, 15, 16]);
         assert_eq!(CHOICES[24], ROW - 1);
+        let widths: Vec<u64> = (0..16).map(width).collect();
+        assert_eq!(widths[..5], [64, 16, 8, 8, 32]);
+        assert_eq!(widths[5..], [8, 8, 8, 8, 8, 32, 8, 8, 8, 8, 8]);
     }
 }
