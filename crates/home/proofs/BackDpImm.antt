@@ -1,92 +1,93 @@
--- Immediate data processing: an answer leads back to its home word. Assumes nothing.
+-- Immediate data processing: an answer leads back to its home word, which has it too. Assumes nothing.
 use mathlib.Core.Path.{_≡_, refl}
 use mathlib.Core.Bool.{Bool, true, false}
 use mathlib.Core.List.{[], _∷_}
-use Prim.Native.Nat.{ℕ, _+_, _*_, _/_, _%_, _^_, _<_}
+use Prim.Native.Nat.{ℕ, _+_, _*_, _^_, _<_}
 use native.Mathlib.Omega.{arith}
 use borrow.Author.Tests.{eqb-true, eqb-false}
 use lib.Dec.{eqb}
-use Rattle.word.specs.Choice.{by-test, tested, parts}
-use Rattle.word.specs.Field.{field, clear, clear-small, small, splits}
+use Rattle.word.specs.Choice.{by-test, tested, parts, fails}
+use Rattle.word.specs.Field.{field, put, small, splits}
 use Rattle.word.specs.Layout.{join, whole, upper, lower}
-use Rattle.insn.specs.Name.{MSR}
-use Rattle.insn.specs.declared.Decoded.{Decoded}
 use Rattle.insn.specs.declared.Flow.the-variants.{Next}
 use Rattle.arm.specs.Row.{pcFlow}
 use Rattle.imm.specs.Imm.{leastOf, immOf}
+use Rattle.dp.specs.Names.{dpName}
 use Rattle.dp.specs.DpImm.{dpImmOf, hintSlot, msrOf, toPc}
-use Rattle.a32.proofs.Groups.{bit-cases}
-use Rattle.parts.specs.Parts.{at, isCount, isAddress}
-use Rattle.home.specs.Table.{ignored}
-use Rattle.home.specs.Home.{clearAll, moveRow, dpImmRow}
-use Rattle.home.specs.WordDp.{wideLayout, hintLayout, msrLayout, source12, dpWord, wideWord, msrImmediateWord}
-use Rattle.home.proofs.BackDp.{Gives, no-rd, compare-leads, move-leads, plain-leads}
+use Rattle.home.specs.Table.{zeros}
+use Rattle.home.specs.Home.{putsOf}
+use Rattle.home.specs.Word.{wordOf}
+use Rattle.home.specs.WordDp.{wideLayout, hintLayout, msrLayout, source12}
+use Rattle.home.proofs.BackDp.{Gives, no-rd, mov-puts, mvn-puts, compare-back, move-back, plain-back}
 use Rattle.home.proofs.BackImm.{imm-one, imm-two}
-use Rattle.home.proofs.Leads.{apart, Leads, refusal}
+use Rattle.home.proofs.Leads.{apart, Back, Settles, refuses, settles, reads, by-value, bit-cases, refusal}
+use Rattle.home.proofs.Puts.{low, laid}
 
-module _ (w addr : ℕ) (bound : w < 2 ^ 32) (group : field w 25 3 ≡ 1) where
-  wide-whole : (n : ℕ) → field w 20 5 ≡ n → join wideLayout (field w 0 12 ∷ field w 12 4 ∷ field w 16 4 ∷ n ∷ 1 ∷ field w 28 4 ∷ []) ≡ w
-  wide-whole n op = simp (op, group) at (whole wideLayout w bound)
+-- the puts leave hints and msr what they are
+module _ (w : ℕ) where
+  still-hint : hintSlot w ≡ true → hintSlot (put w 8 4 0) ≡ true
+  unfolding hintSlot
+  still-hint is = simp apart is
 
-  pub movw-leads : field w 20 5 ≡ 16 → Leads wideWord 75 81 w (dpImmOf w addr)
-  movw-leads op ok =
-      (simp (op, upper w 16 4 0 12, lower w 16 4 0 12) (wide-whole 16 op), simp op, simp op)
+  still-msr : hintSlot (put w 12 4 0) ≡ false
+  unfolding hintSlot
+  still-msr = simp (apart, fails)
 
-  pub movt-leads : field w 20 5 ≡ 20 → Leads wideWord 75 81 w (dpImmOf w addr)
-  movt-leads op ok =
-      (simp (op, upper w 16 4 0 12, lower w 16 4 0 12) (wide-whole 20 op), simp op, simp op)
+module _ (w : ℕ) (bound : w < 2 ^ 32) (group : field w 25 3 ≡ 1) where
+  wide-word : {n : ℕ} → field w 20 5 ≡ n → join wideLayout (field w 0 12 ∷ field w 12 4 ∷ field w 16 4 ∷ n ∷ 1 ∷ field w 28 4 ∷ []) ≡ w
+  wide-word op = simp (op, group) at (whole wideLayout w bound)
+
+  movw : field w 20 5 ≡ 16 → Settles low dpImmOf w
+  unfolding putsOf wordOf
+  movw op = reads (simp (op, upper w 16 4 0 12, lower w 16 4 0 12) (λ addr. (refl, refl, wide-word op)))
+
+  movt : field w 20 5 ≡ 20 → Settles low dpImmOf w
+  unfolding putsOf wordOf
+  movt op = reads (simp (op, upper w 16 4 0 12, lower w 16 4 0 12) (λ addr. (refl, refl, wide-word op)))
 
   -- the hints ignore 11:8
-  hint-whole : field w 20 5 ≡ 18 → hintSlot w ≡ true → (n : ℕ) → field w 0 8 ≡ n
-      → join hintLayout (n ∷ 0 ∷ 15 ∷ 0 ∷ 18 ∷ 1 ∷ field w 28 4 ∷ []) ≡ clear w 8 4
+  hint-word : field w 20 5 ≡ 18 → hintSlot w ≡ true → {n : ℕ} → field w 0 8 ≡ n
+      → join hintLayout (n ∷ 0 ∷ 15 ∷ 0 ∷ 18 ∷ 1 ∷ field w 28 4 ∷ []) ≡ put w 8 4 0
   unfolding hintSlot
-  hint-whole op hint n is =
+  hint-word op hint is =
       simp (apart, op, group, is, eqb-true (field w 16 4) 0 (parts _ (eqb (field w 12 4) 15) hint .0), eqb-true (field w 12 4) 15 (parts (eqb (field w 16 4) 0) _ hint .1))
-      at (whole hintLayout (clear w 8 4) (clear-small w 8 4 bound))
+      at (laid hintLayout (zeros 11 8 ∷ []) tt w bound refl)
 
-  pub hint-leads : field w 20 5 ≡ 18 → hintSlot w ≡ true → Leads wideWord 75 81 (clear w 8 4) (dpImmOf w addr)
-  hint-leads op hint =
-      by-test (eqb (field w 0 8) 0) (λ e. let n : field w 0 8 ≡ 0 = eqb-true _ 0 e in λ ok. (simp (op, hint, n) (hint-whole op hint 0 n), simp (op, hint, n), simp (op, hint, n))) λ n0.
-      by-test (eqb (field w 0 8) 1) (λ e. let n : field w 0 8 ≡ 1 = eqb-true _ 1 e in λ ok. (simp (op, hint, n) (hint-whole op hint 1 n), simp (op, hint, n), simp (op, hint, n))) λ n1.
-      by-test (eqb (field w 0 8) 2) (λ e. let n : field w 0 8 ≡ 2 = eqb-true _ 2 e in λ ok. (simp (op, hint, n) (hint-whole op hint 2 n), simp (op, hint, n), simp (op, hint, n))) λ n2.
-      by-test (eqb (field w 0 8) 3) (λ e. let n : field w 0 8 ≡ 3 = eqb-true _ 3 e in λ ok. (simp (op, hint, n) (hint-whole op hint 3 n), simp (op, hint, n), simp (op, hint, n))) λ n3.
-      by-test (eqb (field w 0 8) 4) (λ e. let n : field w 0 8 ≡ 4 = eqb-true _ 4 e in λ ok. (simp (op, hint, n) (hint-whole op hint 4 n), simp (op, hint, n), simp (op, hint, n))) λ n4.
-      λ ok. refusal (simp (op, hint, n0, n1, n2, n3, n4) at ok)
+  hint : field w 20 5 ≡ 18 → hintSlot w ≡ true → Settles low dpImmOf w
+  unfolding putsOf wordOf
+  hint op slot =
+      by-value w 0 8 0 (λ n. settles (zeros 11 8 ∷ []) tt (simp (apart, op, slot, still-hint w slot, n) (λ addr. (refl, (refl, refl, hint-word op slot n))))) λ n0.
+      by-value w 0 8 1 (λ n. settles (zeros 11 8 ∷ []) tt (simp (apart, op, slot, still-hint w slot, n) (λ addr. (refl, (refl, refl, hint-word op slot n))))) λ n1.
+      by-value w 0 8 2 (λ n. settles (zeros 11 8 ∷ []) tt (simp (apart, op, slot, still-hint w slot, n) (λ addr. (refl, (refl, refl, hint-word op slot n))))) λ n2.
+      by-value w 0 8 3 (λ n. settles (zeros 11 8 ∷ []) tt (simp (apart, op, slot, still-hint w slot, n) (λ addr. (refl, (refl, refl, hint-word op slot n))))) λ n3.
+      by-value w 0 8 4 (λ n. settles (zeros 11 8 ∷ []) tt (simp (apart, op, slot, still-hint w slot, n) (λ addr. (refl, (refl, refl, hint-word op slot n))))) λ n4.
+      refuses (λ addr ok. refusal (simp (op, slot, n0, n1, n2, n3, n4) at ok))
 
-  -- msr ignores 15:12
-  msr-whole : field w 20 2 ≡ 2 → field w 23 2 ≡ 2
-      → join msrLayout (field w 0 12 ∷ 0 ∷ field w 16 4 ∷ 2 ∷ field w 22 1 ∷ 2 ∷ 1 ∷ field w 28 4 ∷ []) ≡ clear w 12 4
-  msr-whole ten two = simp (apart, ten, two, group) at (whole msrLayout (clear w 12 4) (clear-small w 12 4 bound))
-
-  -- what msr's answer gives
-  abbrev pub Msr : Decoded → Type 0
-  Msr d =
-      (msrImmediateWord (d .insn) ≡ clear w 12 4)
-      × (d .insn .name ≡ MSR)
-      × (isCount (at (d .insn) 1) ≡ true)
-      × (isAddress (at (d .insn) 0) ≡ false)
-
-  msr-back : field w 20 2 ≡ 2 → field w 23 2 ≡ 2 → Msr (msrOf w addr)
-  msr-back ten two =
+  -- msr, of which 24:20 is 10r10, ignores 15:12
+  msr-back : (r : ℕ) → r < 2 → field w 20 5 ≡ 18 + 4 * r → (addr : ℕ) → Back (zeros 15 12 ∷ []) w (msrOf w addr)
+  unfolding putsOf wordOf
+  msr-back r bit op addr =
       by-test (leastOf (field w 0 12))
-      (λ least. (simp (least, upper w 22 1 16 4, lower w 22 1 16 4, imm-one (field w 0 12) (small w 0 12) true least) (msr-whole ten two), refl, simp least, simp least))
-      (λ turned. (simp (turned, upper w 22 1 16 4, lower w 22 1 16 4, imm-two (field w 0 12) (small w 0 12)) (msr-whole ten two), refl, simp turned, simp turned))
+      (λ least. simp (least, upper w 22 1 16 4, lower w 22 1 16 4, imm-one (field w 0 12) (small w 0 12) true least) (refl, refl, word))
+      (λ turned. simp (turned, upper w 22 1 16 4, lower w 22 1 16 4, imm-two (field w 0 12) (small w 0 12)) (refl, refl, word))
+    where
+      ten : field w 20 2 ≡ 2
+      ten = omega (arith, splits w 20 3 2, small w 20 2)
 
-  -- 24:20 is 10r10
-  ten-of : (r : ℕ) → field w 20 5 ≡ 18 + 4 * r → field w 20 2 ≡ 2
-  ten-of r op = omega (arith, splits w 20 3 2, small w 20 2)
+      two : field w 23 2 ≡ 2
+      two = omega (arith, splits w 20 3 2, splits w 22 2 1, small w 20 2, small w 22 1)
 
-  two-of : (r : ℕ) → r < 2 → field w 20 5 ≡ 18 + 4 * r → field w 23 2 ≡ 2
-  two-of r bit op = omega (arith, splits w 20 3 2, splits w 22 2 1, small w 20 2, small w 22 1)
+      word : join msrLayout (field w 0 12 ∷ 0 ∷ field w 16 4 ∷ 2 ∷ field w 22 1 ∷ 2 ∷ 1 ∷ field w 28 4 ∷ []) ≡ put w 12 4 0
+      word = simp (apart, ten, two, group) at (laid msrLayout (zeros 15 12 ∷ []) tt w bound refl)
 
-  pub msr-low : field w 20 5 ≡ 18 → hintSlot w ≡ false → Msr (dpImmOf w addr)
-  msr-low op plain = simp (op, plain) (msr-back (ten-of 0 op) (two-of 0 (omega arith) op))
+  msr-low : field w 20 5 ≡ 18 → hintSlot w ≡ false → Settles low dpImmOf w
+  msr-low op slot = settles (zeros 15 12 ∷ []) tt (simp (apart, op, slot, still-msr w) (λ addr. (refl, msr-back 0 (omega arith) op addr)))
 
-  pub msr-high : field w 20 5 ≡ 22 → Msr (dpImmOf w addr)
-  msr-high op = simp op (msr-back (ten-of 1 op) (two-of 1 (omega arith) op))
+  msr-high : field w 20 5 ≡ 22 → Settles low dpImmOf w
+  msr-high op = settles (zeros 15 12 ∷ []) tt (simp (apart, op) (λ addr. (refl, msr-back 1 (omega arith) op addr)))
 
--- the group
-module _ (w addr : ℕ) (bound : w < 2 ^ 32) (group : field w 25 3 ≡ 1)
+-- the operations
+module _ (w : ℕ) (bound : w < 2 ^ 32) (group : field w 25 3 ≡ 1)
     (n16 : eqb (field w 20 5) 16 ≡ false) (n20 : eqb (field w 20 5) 20 ≡ false)
     (n18 : eqb (field w 20 5) 18 ≡ false) (n22 : eqb (field w 20 5) 22 ≡ false) where
   -- a compare of the group sets the flags
@@ -108,20 +109,52 @@ module _ (w addr : ℕ) (bound : w < 2 ^ 32) (group : field w 25 3 ≡ 1)
       (λ least. (imm-one (field w 0 12) (small w 0 12) unsigned least, refl))
       (λ turned. (imm-two (field w 0 12) (small w 0 12), refl))
 
-  abbrev home : ℕ
-  home = clearAll (ignored (dpImmRow w)) w
+  rd-keeps : field w 23 2 ≡ 2 → (addr : ℕ) → dpImmOf (put w 12 4 0) addr ≡ dpImmOf w addr
+  unfolding dpName
+  rd-keeps compare addr = simp (apart, n16, n20, n18, n22, compare)
 
-  pub operation-leads : Leads dpWord 0 37 home (dpImmOf w addr)
-  unfolding dpImmRow moveRow
-  operation-leads =
-      by-test (eqb (field w 23 2) 2)
-      (λ e.
-      simp (n16, n20, n18, n22, e)
-      (compare-leads w addr 1 bound group Next (eqb-true _ 2 e) (sets (eqb-true _ 2 e)) (clear w 12 4) (no-rd w addr 1 bound group) (immOf (field w 0 12) false) (value-gives false)))
+  mov-keeps : eqb (field w 23 2) 2 ≡ false → field w 21 4 ≡ 13 → (addr : ℕ) → dpImmOf (put w 16 4 0) addr ≡ dpImmOf w addr
+  unfolding dpName
+  mov-keeps other mov addr = simp (apart, n16, n20, n18, n22, other, mov)
+
+  mvn-keeps : eqb (field w 23 2) 2 ≡ false → field w 21 4 ≡ 15 → (addr : ℕ) → dpImmOf (put w 16 4 0) addr ≡ dpImmOf w addr
+  unfolding dpName
+  mvn-keeps other mvn addr = simp (apart, n16, n20, n18, n22, other, mvn)
+
+  operations : Settles low dpImmOf w
+  operations =
+      by-value w 23 2 2
+      (λ is.
+      settles (zeros 15 12 ∷ []) tt
+      (λ addr. (
+        rd-keeps is addr,
+        simp (n16, n20, n18, n22, is) (compare-back w 1 bound group Next is (sets is) (zeros 15 12 ∷ []) refl (no-rd w 1 bound group) (immOf (field w 0 12) false) (value-gives false) addr),
+      )))
       λ other.
-      by-test (eqb (field w 21 4) 13)
-      (λ e. simp (n16, n20, n18, n22, other, e) (move-leads w addr 1 bound group (pcFlow w) 13 refl (λ x y. refl) (eqb-true _ 13 e) (immOf (field w 0 12) (toPc w)) (value-gives (toPc w))))
+      by-value w 21 4 13
+      (λ op.
+      settles (zeros 19 16 ∷ []) tt
+      (λ addr. (
+        mov-keeps other op addr,
+        simp (n16, n20, n18, n22, other, op)
+            (move-back w 1 bound group (pcFlow w) 13 refl (λ x y. refl) op (λ a c f o. mov-puts w a c f o op) (immOf (field w 0 12) (toPc w)) (value-gives (toPc w)) addr),
+      )))
       λ n13.
-      by-test (eqb (field w 21 4) 15)
-      (λ e. simp (n16, n20, n18, n22, other, n13, e) (move-leads w addr 1 bound group (pcFlow w) 15 refl (λ x y. refl) (eqb-true _ 15 e) (immOf (field w 0 12) false) (value-gives false)))
-      (λ n15. simp (n16, n20, n18, n22, other, n13, n15) (plain-leads w addr 1 bound group (pcFlow w) other n13 n15 (immOf (field w 0 12) false) (value-gives false)))
+      by-value w 21 4 15
+      (λ op.
+      settles (zeros 19 16 ∷ []) tt
+      (λ addr. (
+        mvn-keeps other op addr,
+        simp (n16, n20, n18, n22, other, op)
+            (move-back w 1 bound group (pcFlow w) 15 refl (λ x y. refl) op (λ a c f o. mvn-puts w a c f o op) (immOf (field w 0 12) false) (value-gives false) addr),
+      )))
+      λ n15.
+      reads (simp (n16, n20, n18, n22, other, n13, n15) (plain-back w 1 bound group (pcFlow w) other n13 n15 (immOf (field w 0 12) false) (value-gives false)))
+
+pub dp-imm-settles : (w : ℕ) → w < 2 ^ 32 → field w 25 3 ≡ 1 → Settles low dpImmOf w
+dp-imm-settles w bound group =
+    by-value w 20 5 16 (movw w bound group) λ n16.
+    by-value w 20 5 20 (movt w bound group) λ n20.
+    by-value w 20 5 18 (λ op. by-test (hintSlot w) (hint w bound group op) (msr-low w bound group op)) λ n18.
+    by-value w 20 5 22 (msr-high w bound group) λ n22.
+    operations w bound group n16 n20 n18 n22

@@ -1,29 +1,26 @@
--- Load/store: setting bit 23 where nothing is added changes no answer, and an answer leads back to its home word. Assumes nothing.
-use mathlib.Core.Path.{_≡_, refl, _∙_}
+-- Load/store: an answer leads back to its home word, which has it too. Assumes nothing.
+use mathlib.Core.Path.{_≡_, refl, ap, _∙_}
 use mathlib.Core.Bool.{Bool, true, false}
 use mathlib.Core.List.{[], _∷_}
-use Prim.Native.Nat.{ℕ, zero, suc, _+_, _^_, _<_}
-use native.Mathlib.Omega.{arith}
-use borrow.Author.Tests.{eqb-true, eqb-false}
-use lib.Dec.{eqb}
+use Prim.Native.Nat.{ℕ, zero, suc, _^_, _<_}
+use borrow.Author.Tests.{eqb-false}
+use lib.Dec.{eqb, leb, ltb}
 use lib.IntN.{natAbs}
-use Rattle.word.specs.Choice.{pick, inside, by-test, fails}
-use Rattle.word.specs.Field.{field, put, small, splits}
+use Rattle.word.specs.Choice.{pick, both, by-test, fails}
+use Rattle.word.specs.Field.{field, put}
 use Rattle.word.specs.Layout.{join, whole, rejoin}
 use Rattle.word.specs.Signed.{minus}
 use Rattle.insn.specs.Numbers.{modeNumber}
 use Rattle.ldst.specs.Mem.{unprivilegedOf, modeOf, postOf, dispOf, minusZeroOf}
 use Rattle.ldst.specs.Ldst.{nameOf, refusedIndexOf, markedOf, ldstOf}
-use Rattle.a32.proofs.Groups.{bit-cases}
-use Rattle.home.specs.Home.{raisesOf, raised}
 use Rattle.parts.specs.Operands.{signNumber, markNumber}
 use Rattle.parts.specs.Parts.{bitP, bitU}
-use Rattle.home.specs.WordLdst.{loadBit, byteBit, userBit, writeBit, indexLayout, offset12, addedBit, layout, ldstWord}
-use Rattle.home.proofs.Leads.{apart, Leads, magnitude, refusal, raised-above, raised-below, raised-small}
-
--- 27:25 is 27:26 and bit 25
-form : (w b : ℕ) → field w 26 2 ≡ 1 → field w 25 1 ≡ b → field w 25 3 ≡ 2 + b
-form w b h l = omega (arith, splits w 25 2 1)
+use Rattle.home.specs.Table.{ones}
+use Rattle.home.specs.Home.{putsOf}
+use Rattle.home.specs.Word.{wordOf}
+use Rattle.home.specs.WordLdst.{loadBit, byteBit, userBit, writeBit, indexLayout, offset12, addedBit, layout}
+use Rattle.home.proofs.Leads.{apart, Settles, refuses, settles, reads, by-value, bit-cases, magnitude, refusal, starts, ends, over, under}
+use Rattle.home.proofs.Puts.{high, laid}
 
 -- a displacement below 0 is subtracted
 minus-down : (n : ℕ) → eqb n 0 ≡ false → signNumber (minus n) ≡ 1
@@ -32,17 +29,33 @@ minus-down (suc n) h = refl
 
 module _ (w : ℕ) where
   -- what a name tells
-  name-tells : (loadBit (nameOf w) ≡ field w 20 1) × (byteBit (nameOf w) ≡ field w 22 1) × (userBit (nameOf w) ≡ pick (unprivilegedOf w) 1 0) × (inside 82 89 (nameOf w) ≡ true)
+  abbrev Tells : ℕ → ℕ → Type 0
+  Tells name user = (loadBit name ≡ field w 20 1) × (byteBit name ≡ field w 22 1) × (userBit name ≡ user) × (leb 82 name ≡ true) × (leb name 89 ≡ true)
+
+  name-tells : Tells (nameOf w) (pick (unprivilegedOf w) 1 0)
   name-tells =
       by-test (unprivilegedOf w)
       (λ t.
       bit-cases w 20
-      (λ l. bit-cases w 22 (λ b. simp (t, l, b) (refl, refl, refl, refl)) (λ b. simp (t, l, b) (refl, refl, refl, refl)))
-      (λ l. bit-cases w 22 (λ b. simp (t, l, b) (refl, refl, refl, refl)) (λ b. simp (t, l, b) (refl, refl, refl, refl))))
+      (λ l. bit-cases w 22 (λ b. simp (t, l, b) (refl, refl, refl, refl, refl)) (λ b. simp (t, l, b) (refl, refl, refl, refl, refl)))
+      (λ l. bit-cases w 22 (λ b. simp (t, l, b) (refl, refl, refl, refl, refl)) (λ b. simp (t, l, b) (refl, refl, refl, refl, refl))))
       (λ t.
       bit-cases w 20
-      (λ l. bit-cases w 22 (λ b. simp (t, l, b) (refl, refl, refl, refl)) (λ b. simp (t, l, b) (refl, refl, refl, refl)))
-      (λ l. bit-cases w 22 (λ b. simp (t, l, b) (refl, refl, refl, refl)) (λ b. simp (t, l, b) (refl, refl, refl, refl))))
+      (λ l. bit-cases w 22 (λ b. simp (t, l, b) (refl, refl, refl, refl, refl)) (λ b. simp (t, l, b) (refl, refl, refl, refl, refl)))
+      (λ l. bit-cases w 22 (λ b. simp (t, l, b) (refl, refl, refl, refl, refl)) (λ b. simp (t, l, b) (refl, refl, refl, refl, refl))))
+
+  -- it is from 82 to 89
+  from-82 : (k : ℕ) → leb k 82 ≡ true → leb k (nameOf w) ≡ true
+  from-82 = starts 82 89 (nameOf w) (name-tells .3) (name-tells .4)
+
+  to-89 : (k : ℕ) → leb 89 k ≡ true → leb (nameOf w) k ≡ true
+  to-89 = ends 82 89 (nameOf w) (name-tells .3) (name-tells .4)
+
+  over-81 : (k : ℕ) → ltb k 82 ≡ true → leb (nameOf w) k ≡ false
+  over-81 = over 82 89 (nameOf w) (name-tells .3) (name-tells .4)
+
+  under-90 : (k : ℕ) → ltb 89 k ≡ true → leb k (nameOf w) ≡ false
+  under-90 = under 82 89 (nameOf w) (name-tells .3) (name-tells .4)
 
   -- the mode has P
   pub has-P : bitP (modeNumber (modeOf w)) ≡ field w 24 1
@@ -52,106 +65,103 @@ module _ (w : ℕ) where
   unfolding unprivilegedOf
   user-back p = bit-cases w 21 (λ b. simp (p, b)) (λ b. simp (p, b))
 
-  write-back : writeBit (modeNumber (modeOf w)) (nameOf w) ≡ field w 21 1
+  has-W : writeBit (modeNumber (modeOf w)) (nameOf w) ≡ field w 21 1
   unfolding writeBit
-  write-back =
+  has-W =
       bit-cases w 24
       (λ p. simp p (name-tells .2 ∙ user-back p))
       (λ p. bit-cases w 21 (λ b. simp (p, b)) (λ b. simp (p, b)))
 
-  magnitude-back : (off : ℕ) → natAbs (dispOf w off) ≡ off
+  pub magnitude-back : (off : ℕ) → natAbs (dispOf w off) ≡ off
   magnitude-back off = bit-cases w 23 (λ u. simp u (magnitude off)) (λ u. simp u)
 
-  -- U, from the sign of a displacement that is not 0 and the mark of one that is; in offset mode the home word has it set
-  abbrev Up : Type 0
-  Up =
-      bitU (signNumber (dispOf w (field w 0 12))) (markNumber (markedOf w (field w 0 12)))
-      ≡ field (raised (raisesOf w) w) 23 1
+  -- U, from the sign of a displacement that is not 0, and the mark of one that is
+  abbrev added : ℕ
+  added = bitU (signNumber (dispOf w (field w 0 12))) (markNumber (markedOf w (field w 0 12)))
 
-  up-back : eqb (field w 28 4) 15 ≡ false → field w 25 3 ≡ 2 → Up
-  unfolding markedOf minusZeroOf raisesOf
-  up-back cond imm = by-test (eqb (field w 0 12) 0) (λ z. none (eqb-true _ 0 z)) some
-    where
-      some : eqb (field w 0 12) 0 ≡ false → Up
-      some z =
-          bit-cases w 23
-          (λ u. simp (u, z, fails, minus-down (field w 0 12) z))
-          (λ u. simp (u, z, fails))
+  some-U : eqb (field w 0 12) 0 ≡ false → added ≡ field w 23 1
+  unfolding markedOf minusZeroOf
+  some-U z = bit-cases w 23 (λ u. simp (u, z, fails, minus-down (field w 0 12) z)) (λ u. simp (u, z, fails))
 
-      none : field w 0 12 ≡ 0 → Up
-      none z =
-          bit-cases w 24
-          (λ p. bit-cases w 23 (λ u. simp (z, p, u, cond, imm)) (λ u. simp (z, p, u, cond, imm)))
-          (λ p.
-          bit-cases w 21
-          (λ b. bit-cases w 23 (λ u. simp (z, p, u, b, cond, imm, apart)) (λ u. simp (z, p, u, b, cond, imm, apart)))
-          (λ b. bit-cases w 23 (λ u. simp (z, p, u, b, cond, imm)) (λ u. simp (z, p, u, b, cond, imm))))
+  post-U : field w 0 12 ≡ 0 → field w 24 1 ≡ 0 → added ≡ field w 23 1
+  unfolding markedOf minusZeroOf
+  post-U z p = bit-cases w 23 (λ u. simp (z, p, u)) (λ u. simp (z, p, u))
 
-module _ (w addr : ℕ) (bound : w < 2 ^ 32) (cond : eqb (field w 28 4) 15 ≡ false) (group : field w 26 2 ≡ 1) where
+  pre-U : field w 0 12 ≡ 0 → field w 24 1 ≡ 1 → field w 21 1 ≡ 1 → added ≡ field w 23 1
+  unfolding markedOf minusZeroOf
+  pre-U z p b = bit-cases w 23 (λ u. simp (z, p, b, u)) (λ u. simp (z, p, b, u))
+
+  -- nothing is added, in offset mode
+  abbrev nothing-added : Bool
+  nothing-added = both (eqb (modeNumber (modeOf w)) 0) (eqb (natAbs (dispOf w (field w 0 12))) 0)
+
+module _ (w : ℕ) (bound : w < 2 ^ 32) (group : field w 26 2 ≡ 1) where
   -- "Immediate 11:0"
-  immediate-leads : field w 25 1 ≡ 0 → Leads ldstWord 82 89 (raised (raisesOf w) w) (ldstOf w addr)
-  unfolding refusedIndexOf offset12 addedBit
-  immediate-leads form0 ok =
-      (simp (form0, magnitude-back w, up-back w cond (form w 0 group form0), name-tells w .0, name-tells w .1, write-back w, has-P w) home-word, simp form0 (name-tells w .3), simp form0)
-    where
-      home-word : join layout (field w 0 12 ∷ field w 12 4 ∷ field w 16 4 ∷ field w 20 1 ∷ field w 21 1 ∷ field w 22 1 ∷ field (raised (raisesOf w) w) 23 1 ∷ field w 24 1 ∷ 0 ∷ 1 ∷ field w 28 4 ∷ [])
-          ≡ raised (raisesOf w) w
-      home-word =
-          simp (raised-above (raisesOf w) w, raised-below (raisesOf w) w, group, form0) at (whole layout (raised (raisesOf w) w) (raised-small (raisesOf w) w bound))
+  module _ (form0 : field w 25 1 ≡ 0) where
+    stays : nothing-added w ≡ false → added w ≡ field w 23 1 → Settles high ldstOf w
+    unfolding putsOf wordOf refusedIndexOf offset12 addedBit
+    stays some u =
+        reads
+        (λ addr. (
+          simp form0,
+          simp (form0, from-82 w, to-89 w, over-81 w, under-90 w, some),
+          simp (form0, to-89 w, over-81 w, magnitude-back w, u, name-tells w .0, name-tells w .1, has-W w, has-P w) (simp (group, form0) at (whole layout w bound)),
+        ))
+
+    -- in offset mode 0 is added or subtracted alike
+    module _ (z : field w 0 12 ≡ 0) (p : field w 24 1 ≡ 1) (b : field w 21 1 ≡ 0) where
+      keeps : (addr : ℕ) → ldstOf (put w 23 1 1) addr ≡ ldstOf w addr
+      unfolding refusedIndexOf unprivilegedOf postOf markedOf minusZeroOf
+      keeps addr = bit-cases w 23 (λ u. simp (apart, z, form0, p, b, u)) (λ u. simp (apart, z, form0, p, b, u))
+
+      up : added w ≡ 1
+      unfolding markedOf
+      up = bit-cases w 23 (λ u. simp (z, p, b, u)) (λ u. simp (z, p, b, u))
+
+      none : eqb (natAbs (dispOf w (field w 0 12))) 0 ≡ true
+      none = ap (λ (n : ℕ). eqb n 0) (magnitude-back w (field w 0 12) ∙ z)
+
+      raises : Settles high ldstOf w
+      unfolding putsOf wordOf refusedIndexOf offset12 addedBit
+      raises =
+          settles (ones 23 23 ∷ []) tt
+          (λ addr. (
+            keeps addr,
+            (
+              simp form0,
+              simp (form0, from-82 w, to-89 w, over-81 w, under-90 w, p, b, none),
+              simp (form0, to-89 w, over-81 w, magnitude-back w, up, name-tells w .0, name-tells w .1, has-W w, has-P w)
+                  (simp (apart, group, form0) at (laid layout (ones 23 23 ∷ []) tt w bound refl)),
+            ),
+          ))
+
+    immediate : Settles high ldstOf w
+    immediate =
+        by-value w 0 12 0
+        (λ z.
+        bit-cases w 24
+        (λ p. stays (simp p) (post-U w z p))
+        (λ p. bit-cases w 21 (raises z p) (λ b. stays (simp (p, b)) (pre-U w z p b))))
+        (λ z. stays (simp (magnitude-back w, z, fails)) (some-U w z))
 
   -- "Index form needs U set and 6:5 = 00"
-  index-leads : field w 25 1 ≡ 1 → field w 4 1 ≡ 0 → Leads ldstWord 82 89 w (ldstOf w addr)
-  unfolding refusedIndexOf offset12 addedBit
-  index-leads form1 four =
-      bit-cases w 23 (λ u ok. refusal (simp (form1, u) at ok)) λ u.
-      by-test (eqb (field w 5 2) 0)
-      (λ z ok. (
-        simp (form1, u, z, name-tells w .0, name-tells w .1, write-back w, has-P w) (index-word u (eqb-true _ 0 z)),
-        simp (form1, u, z) (name-tells w .3),
+  index : field w 25 1 ≡ 1 → field w 4 1 ≡ 0 → Settles high ldstOf w
+  unfolding putsOf wordOf refusedIndexOf offset12 addedBit
+  index form1 four =
+      bit-cases w 23 (λ u. refuses (λ addr ok. refusal (simp (form1, u) at ok))) λ u.
+      by-value w 5 2 0
+      (λ z.
+      reads
+      (λ addr. (
         simp (form1, u, z),
-      ))
-      (λ z ok. refusal (simp (form1, u, z) at ok))
+        simp (form1, u, z, from-82 w, to-89 w, over-81 w, under-90 w),
+        simp (form1, u, z, to-89 w, over-81 w, name-tells w .0, name-tells w .1, has-W w, has-P w)
+            (rw (index12 z) (simp (form1, group, u) at (whole layout w bound))),
+      )))
+      (λ z. refuses (λ addr ok. refusal (simp (form1, u, z) at ok)))
     where
       index12 : field w 5 2 ≡ 0 → join indexLayout (field w 0 4 ∷ 0 ∷ 0 ∷ field w 7 5 ∷ []) ≡ field w 0 12
       index12 z = simp (four, z) at (rejoin indexLayout 0 w)
 
-      index-word : field w 23 1 ≡ 1 → field w 5 2 ≡ 0
-          → join layout (join indexLayout (field w 0 4 ∷ 0 ∷ 0 ∷ field w 7 5 ∷ []) ∷ field w 12 4 ∷ field w 16 4 ∷ field w 20 1 ∷ field w 21 1 ∷ field w 22 1 ∷ 1 ∷ field w 24 1 ∷ 1 ∷ 1 ∷ field w 28 4 ∷ []) ≡ w
-      index-word u z = rw (index12 z) (simp (form1, group, u) at (whole layout w bound))
-
-  never-raised : field w 25 1 ≡ 1 → raisesOf w ≡ false
-  unfolding raisesOf
-  never-raised form1 =
-      let three : field w 25 3 ≡ 3 = form w 1 group form1 in
-      simp (cond, three, fails)
-
-  pub ldst-leads : (field w 25 1 ≡ 1 → field w 4 1 ≡ 0) → Leads ldstWord 82 89 (raised (raisesOf w) w) (ldstOf w addr)
-  ldst-leads four =
-      bit-cases w 25 immediate-leads (λ form1. rw (never-raised form1) (index-leads form1 (four form1)))
-
-module _ (w addr : ℕ) where
-  -- in offset mode 0 is added or subtracted alike
-  nothing-added : field w 0 12 ≡ 0 → field w 25 3 ≡ 2 → field w 24 1 ≡ 1 → field w 21 1 ≡ 0 → ldstOf (put w 23 1 1) addr ≡ ldstOf w addr
-  unfolding refusedIndexOf unprivilegedOf postOf markedOf minusZeroOf
-  nothing-added z imm p b =
-      let form0 : field w 25 1 ≡ 0 = omega (arith, splits w 25 2 1, small w 25 1) in
-      bit-cases w 23 (λ u. simp (apart, z, form0, p, b, u)) (λ u. simp (apart, z, form0, p, b, u))
-
-  by-raise : (up : Bool) → raisesOf w ≡ up → ldstOf (raised up w) addr ≡ ldstOf w addr → ldstOf (raised (raisesOf w) w) addr ≡ ldstOf w addr
-  by-raise up is-up kept = rw is-up kept
-
-  pub ldst-keeps : eqb (field w 28 4) 15 ≡ false → ldstOf (raised (raisesOf w) w) addr ≡ ldstOf w addr
-  unfolding raisesOf
-  ldst-keeps cond =
-      by-test (eqb (field w 0 12) 0)
-      (λ z.
-      by-test (eqb (field w 25 3) 2)
-      (λ imm.
-      by-test (eqb (field w 24 1) 1)
-      (λ p.
-      by-test (eqb (field w 21 1) 0)
-      (λ b. by-raise true (simp (cond, z, imm, p, b)) (nothing-added (eqb-true _ 0 z) (eqb-true _ 2 imm) (eqb-true _ 1 p) (eqb-true _ 0 b)))
-      (λ b. by-raise false (simp (cond, z, imm, p, b)) refl))
-      (λ p. by-raise false (simp (cond, z, imm, p)) refl))
-      (λ imm. by-raise false (simp (cond, z, imm)) refl))
-      (λ z. by-raise false (simp z) refl)
+  pub ldst-settles : (field w 25 1 ≡ 1 → field w 4 1 ≡ 0) → Settles high ldstOf w
+  ldst-settles four = bit-cases w 25 immediate (λ form1. index form1 (four form1))

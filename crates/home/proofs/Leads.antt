@@ -1,28 +1,63 @@
 -- What is shown of each group of rows, and how its proofs go by cases. Assumes nothing.
-use mathlib.Core.Path.{_≡_, refl, ap, sym, _∙_}
+use mathlib.Core.Path.{_≡_, refl, ap, sym, _∙_, subst}
 use mathlib.Core.Bool.{Bool, true, false}
-use Prim.Native.Nat.{ℕ, zero, suc, _+_, _^_, _<_, Ordering, compare·suc-zero}
+use mathlib.Core.List.{List, []}
+use Prim.Native.Nat.{ℕ, zero, suc, Ordering, compare·suc-zero}
 use native.Mathlib.Omega.{arith}
-use borrow.Author.Tests.{eqb-true, eqb-false}
-use lib.Dec.{eqb, leb, isEq}
+use borrow.Author.Tests.{eqb-true, eqb-false, ltb-true, leb-true, le-leb, lt-leb}
+use lib.Dec.{T, eqb, leb, ltb, isEq}
 use lib.IntN.{natAbs}
-use Rattle.word.specs.Choice.{inside, by-test}
-use Rattle.word.specs.Field.{field, put, small, keeps-above, keeps-below, cleared, put-above, put-below, put-at}
+use Rattle.word.specs.Choice.{by-test}
+use Rattle.word.specs.Field.{field, small, put-above, put-below, put-at}
 use Rattle.word.specs.Signed.{minus}
 use Rattle.insn.specs.declared.Decoded.{Decoded}
-use Rattle.insn.specs.declared.Insn.{Insn}
-use Rattle.home.specs.Home.{raised}
-use Rattle.parts.specs.Parts.{at, isAddress}
+use Rattle.home.specs.Table.{Put}
+use Rattle.home.specs.Home.{putsOf, putAll}
+use Rattle.home.specs.Word.{wordOf}
+use Rattle.home.proofs.Puts.{all}
 
--- what clearing a field, or putting one, leaves of the others
-pub ruleset apart = (keeps-above, keeps-below, cleared, put-above, put-below, put-at)
+-- what a put leaves of the other fields, and of its own
+pub ruleset apart = (put-above, put-below, put-at)
 
--- an accepted answer leads back to a word, under a name from lo to hi, and is no branch to an address
-abbrev pub Leads : (Insn → ℕ) → ℕ → ℕ → ℕ → Decoded → Type 0
-Leads word lo hi home d =
-    d .refusal ≡ 0 → (word (d .insn) ≡ home) × (inside lo hi (d .insn .name) ≡ true) × (isAddress (at (d .insn) 0) ≡ false)
+-- an accepted answer of w: these are its puts, and it leads back to w with them put in
+abbrev pub Back : List Put → ℕ → Decoded → Type 0
+Back ps w d = (d .refusal ≡ 0) × (putsOf (d .insn) ≡ ps) × (wordOf (d .insn) ≡ putAll ps w)
 
--- a bit is not clear and set
+-- a word of a group is refused at every address; or it is accepted at every address, and with its puts, which are near, it has the same answer
+pub data Settles (near : Put → Bool) (of : ℕ → ℕ → Decoded) (w : ℕ) : Type 0 where
+  refuses : ((addr : ℕ) → (of w addr) .refusal ≡ 0 → ⊥) → Settles near of w
+  settles : (ps : List Put) → T (all near ps) → ((addr : ℕ) → (of (putAll ps w) addr ≡ of w addr) × Back ps w (of w addr)) → Settles near of w
+
+-- by a row that ignores nothing
+pub reads : {near : Put → Bool} {of : ℕ → ℕ → Decoded} {w : ℕ} → ((addr : ℕ) → Back [] w (of w addr)) → Settles near of w
+reads back = settles [] tt (λ addr. (refl, back addr))
+
+-- by the rows that tests lead to, with the puts and without
+pub leads-to : {near : Put → Bool} {of of′ : ℕ → ℕ → Decoded} {w : ℕ} → Settles near of′ w
+    → ((ps : List Put) → T (all near ps) → (addr : ℕ) → of (putAll ps w) addr ≡ of′ (putAll ps w) addr) → Settles near of w
+leads-to (refuses never-ok) to = refuses (λ addr ok. never-ok addr (subst (λ (d : Decoded). d .refusal ≡ 0) (to [] tt addr) ok))
+leads-to {w = w} (settles ps t given) to =
+    settles ps t
+    (λ addr. (
+      to ps t addr ∙ given addr .0 ∙ sym (to [] tt addr),
+      subst (λ (d : Decoded). Back ps w d) (sym (to [] tt addr)) (given addr .1),
+    ))
+
+-- by whether a field has a value
+pub by-value {ℓ} : {A : Type ℓ} (w lo k n : ℕ) → (field w lo k ≡ n → A) → (eqb (field w lo k) n ≡ false → A) → A
+by-value w lo k n is other = by-test (eqb (field w lo k) n) (λ e. is (eqb-true _ n e)) other
+
+-- a bit is set or clear
+pub set-bit : (w n : ℕ) → eqb (field w n 1) 0 ≡ false → field w n 1 ≡ 1
+set-bit w n e = from (eqb-false (field w n 1) 0 e)
+  where
+    from : (field w n 1 ≡ 0 → ⊥) → field w n 1 ≡ 1
+    from h = omega (arith, small w n 1)
+
+pub bit-cases {ℓ} : {A : Type ℓ} (w n : ℕ) → (field w n 1 ≡ 0 → A) → (field w n 1 ≡ 1 → A) → A
+bit-cases w n off on = by-value w n 1 0 off (λ e. on (set-bit w n e))
+
+-- and not both
 pub never {ℓ} : {A : Type ℓ} {n : ℕ} → n ≡ 0 → n ≡ 1 → A
 never off on = absurd (eqb-false 0 1 refl (sym off ∙ on))
 
@@ -35,25 +70,25 @@ magnitude (suc n) = refl
 pub refusal {ℓ} : {A : Type ℓ} {n : ℕ} → suc n ≡ 0 → A
 refusal {n = n} h = absurd (eqb-false (suc n) 0 (ap (λ (o : Ordering). isEq o) (compare·suc-zero n)) h)
 
--- a field of two bits, or of three, value by value
+-- a field of two bits, value by value
 pub two-cases {ℓ} : {A : Type ℓ} (w lo : ℕ) → (field w lo 2 ≡ 0 → A) → (field w lo 2 ≡ 1 → A) → (field w lo 2 ≡ 2 → A) → (field w lo 2 ≡ 3 → A) → A
 two-cases w lo a b c d =
-    by-test (eqb (field w lo 2) 0) (λ e. a (eqb-true _ 0 e)) λ n0.
-    by-test (eqb (field w lo 2) 1) (λ e. b (eqb-true _ 1 e)) λ n1.
-    by-test (eqb (field w lo 2) 2) (λ e. c (eqb-true _ 2 e)) λ n2.
+    by-value w lo 2 0 a λ n0. by-value w lo 2 1 b λ n1. by-value w lo 2 2 c λ n2.
     d (last (eqb-false _ 0 n0) (eqb-false _ 1 n1) (eqb-false _ 2 n2))
   where
     last : (field w lo 2 ≡ 0 → ⊥) → (field w lo 2 ≡ 1 → ⊥) → (field w lo 2 ≡ 2 → ⊥) → field w lo 2 ≡ 3
     last x y z = omega (arith, small w lo 2)
 
--- what setting bit 23 leaves, and that it stays within a word
-module _ (raise : Bool) (w : ℕ) where
-  pub raised-above : (lo k : ℕ) → leb 24 lo ≡ true → field (raised raise w) lo k ≡ field w lo k
-  raised-above lo k h = by-test raise (λ e. simp (e, put-above w 23 1 1 refl lo k h)) (λ e. simp e)
+-- a number from lo to hi, against another
+module _ (lo hi n : ℕ) (from : leb lo n ≡ true) (to : leb n hi ≡ true) where
+  pub starts : (k : ℕ) → leb k lo ≡ true → leb k n ≡ true
+  starts k h = le-leb k n (omega (arith, leb-true k lo h, leb-true lo n from))
 
-  pub raised-below : (lo k : ℕ) → leb (lo + k) 23 ≡ true → field (raised raise w) lo k ≡ field w lo k
-  raised-below lo k h = by-test raise (λ e. simp (e, put-below w 23 1 1 refl lo k h)) (λ e. simp e)
+  pub ends : (k : ℕ) → leb hi k ≡ true → leb n k ≡ true
+  ends k h = le-leb n k (omega (arith, leb-true hi k h, leb-true n hi to))
 
-  pub raised-small : w < 2 ^ 32 → raised raise w < 2 ^ 32
-  unfolding put
-  raised-small h = by-test raise (λ e. simp e (omega arith)) (λ e. simp e h)
+  pub over : (k : ℕ) → ltb k lo ≡ true → leb n k ≡ false
+  over k h = lt-leb n k (omega (arith, ltb-true k lo h, leb-true lo n from))
+
+  pub under : (k : ℕ) → ltb hi k ≡ true → leb k n ≡ false
+  under k h = lt-leb k n (omega (arith, ltb-true hi k h, leb-true n hi to))

@@ -1,6 +1,4 @@
 pub mod Alike
-pub mod Table
-pub mod Home
 pub mod WordDp
 pub mod WordMisc
 pub mod WordMultiply
@@ -9,4 +7,6 @@ pub mod WordLdst
 pub mod WordMedia
 pub mod WordTransfer
 pub mod Word
+pub mod Table
+pub mod Home
 pub mod Cases

@@ -8,7 +8,10 @@ use Rattle.word.specs.Choice.{pick, by-test}
 use Rattle.insn.specs.Answer.{insnOf, accepted, refused}
 use Rattle.insn.specs.declared.Decoded.{Decoded}
 use Rattle.insn.specs.declared.Flow.{Flow}
+use Rattle.insn.specs.declared.Flow.the-variants.{Next, Branch, CondBranch, IndirectBranch, Call, IndirectCall, Return, Trap}
 use Rattle.insn.specs.declared.Insn.{Insn}
+use Rattle.home.specs.Home.{putsOf, homeBy}
+use Rattle.home.specs.WordDp.{isIndirect}
 use Rattle.predicated.specs.Predicated.{flowAt, under}
 
 module _ (c : ℕ) where
@@ -51,5 +54,20 @@ module _ (c : ℕ) (d : Decoded) where
   pub flow-under : d .refusal ≡ 0 → (under c d) .insn .flow ≡ flowAt c (d .insn .flow)
   unfolding under
   flow-under ok = simp ok
+
+-- no row of the home table asks for the condition, nor for what it changes of a flow
+branches-under : (c : ℕ) (f : Flow) → isIndirect (flowAt c f) ≡ isIndirect f
+branches-under c Next = refl
+branches-under c (Branch a) = by-test (eqb c 14) (λ e. simp e) (λ e. simp e)
+branches-under c (CondBranch a) = by-test (eqb c 14) (λ e. simp e) (λ e. simp e)
+branches-under c IndirectBranch = refl
+branches-under c (Call a) = refl
+branches-under c IndirectCall = refl
+branches-under c Return = refl
+branches-under c Trap = refl
+
+pub home-under : (c : ℕ) (d : Decoded) (w : ℕ) → homeBy (under c d) w ≡ homeBy d w
+unfolding under putsOf
+home-under c d w = by-test (eqb (d .refusal) 0) (λ e. simp (e, branches-under)) (λ e. simp e)
 
 pub ruleset laws = (through, flows-through, no-row-under, coprocessor-under, accepted-under)

@@ -11,11 +11,11 @@ use Rattle.insn.specs.declared.Decoded.{Decoded}
 use Rattle.a32.specs.Decode.{controlOf, decodeOf}
 use Rattle.a32.proofs.Groups.{Below, Group, unconditional, coprocessor, misc, halfword, dp-reg, multiply, sync, extra-ldst, dp-imm, ldst, ldst-index, media, block, branch, found, reaches}
 use Rattle.home.specs.Alike.{Alike, fields-alike}
-use Rattle.home.specs.Home.{homeOf}
-use Rattle.home.proofs.Conditions.{homes-alike}
+use Rattle.home.specs.Home.{putsOf, homeBy, homeOf}
+use Rattle.home.proofs.Puts.{all-good, putAll-alike}
 use Rattle.spelling.specs.Line.{nameOf, insnText, answerText}
 use Rattle.predicated.specs.Predicated.{flowAt, under, textUnder}
-use Rattle.predicated.proofs.Laws.{coprocessor-under, refusal-under, name-under, operands-under, flow-under}
+use Rattle.predicated.proofs.Laws.{coprocessor-under, refusal-under, name-under, operands-under, flow-under, home-under}
 use Rattle.predicated.proofs.Groups as G
 
 -- the text of an answer under a condition
@@ -76,23 +76,34 @@ module _ (w v addr : ℕ) (alike : Alike w v) (c : Below w) (c′ : Below v) whe
       of : {row : ℕ → ℕ → Decoded} → Group w row → decodeOf v addr ≡ under (field v 28 4) (decodeOf w addr)
       of group = reaches v (beside group) addr ∙ once group ∙ ap (under (field v 28 4)) (sym (reaches w group addr))
 
+-- the home words of two words that differ in the condition alone, too
+pub homes-alike : (w v : ℕ) → Alike w v → Below w → Below v → Alike (homeOf w) (homeOf v)
+unfolding homeOf
+homes-alike w v alike c c′ = both-by (decodeOf w 0) ∙ sym (ap (λ (x : ℕ). field x 0 28) (ap (λ (d : Decoded). homeBy d v) (read-once w v 0 alike c c′) ∙ home-under (field v 28 4) (decodeOf w 0) v))
+  where
+    both-by : (d : Decoded) → Alike (homeBy d w) (homeBy d v)
+    both-by d =
+        by-test (eqb (d .refusal) 0)
+        (λ ok. simp ok (putAll-alike (putsOf (d .insn)) (all-good (d .insn)) w v alike))
+        (λ refused. simp refused alike)
+
+module _ (w v addr : ℕ) (alike : Alike w v) (c : Below w) (c′ : Below v) where
   -- the text after the word
   pub text-once : answerText (decodeOf v addr) ≡ textUnder (field v 28 4) (decodeOf w addr)
-  text-once = ap answerText read-once ∙ text-under (field v 28 4) (decodeOf w addr)
+  text-once = ap answerText (read-once w v addr alike c c′) ∙ text-under (field v 28 4) (decodeOf w addr)
 
-  -- home words differ in the condition alone, too
   pub home-once : Alike (homeOf w) (homeOf v)
   home-once = homes-alike w v alike c c′
 
   -- part by part
   pub same-refusal : (decodeOf v addr) .refusal ≡ (decodeOf w addr) .refusal
-  same-refusal = ap (λ (d : Decoded). d .refusal) read-once ∙ refusal-under (field v 28 4) (decodeOf w addr)
+  same-refusal = ap (λ (d : Decoded). d .refusal) (read-once w v addr alike c c′) ∙ refusal-under (field v 28 4) (decodeOf w addr)
 
   pub same-name : (decodeOf v addr) .insn .name ≡ (decodeOf w addr) .insn .name
-  same-name = ap (λ (d : Decoded). d .insn .name) read-once ∙ name-under (field v 28 4) (decodeOf w addr)
+  same-name = ap (λ (d : Decoded). d .insn .name) (read-once w v addr alike c c′) ∙ name-under (field v 28 4) (decodeOf w addr)
 
   pub same-operands : (decodeOf v addr) .insn .ops ≡ (decodeOf w addr) .insn .ops
-  same-operands = ap (λ (d : Decoded). d .insn .ops) read-once ∙ operands-under (field v 28 4) (decodeOf w addr)
+  same-operands = ap (λ (d : Decoded). d .insn .ops) (read-once w v addr alike c c′) ∙ operands-under (field v 28 4) (decodeOf w addr)
 
   pub same-flow : (decodeOf w addr) .refusal ≡ 0 → (decodeOf v addr) .insn .flow ≡ flowAt (field v 28 4) ((decodeOf w addr) .insn .flow)
-  same-flow ok = ap (λ (d : Decoded). d .insn .flow) read-once ∙ flow-under (field v 28 4) (decodeOf w addr) ok
+  same-flow ok = ap (λ (d : Decoded). d .insn .flow) (read-once w v addr alike c c′) ∙ flow-under (field v 28 4) (decodeOf w addr) ok

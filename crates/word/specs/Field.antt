@@ -1,12 +1,12 @@
 -- A field of a word, the word with another number in a field, and the laws between the two, for every place and width.
 use mathlib.Core.Path.{_≡_, sym, ap, _∙_, subst}
 use mathlib.Core.Bool.{true}
-use Prim.Native.Nat.{ℕ, _+_, _*_, _/_, _%_, _^_, _<_, _≤_}
-use native.Mathlib.Nat.{le-add-left, lt-of-le-of-lt, le-dest, mod-lt, add-comm, add-assoc, add-mul, mul-assoc, mul-comm, mul-add-mod-self-right}
+use Prim.Native.Nat.{ℕ, _+_, _*_, _/_, _%_, _^_, _<_}
+use native.Mathlib.Nat.{le-dest, mod-lt, mod-eq-of-lt, div-one, add-comm, add-assoc, add-mul, mul-assoc, mul-comm, mul-add-mod-self-right}
 use native.Mathlib.Omega.{arith}
 use lib.Arith.{digits-lt}
 use lib.Dec.{T, leb, ltb, leb→le}
-use borrow.Author.Tests.{ltb-true, lt-ltb}
+use borrow.Author.Tests.{ltb-true}
 use lib.Pow as P
 use lib.Pow.{pow-pos, pow-add}
 
@@ -18,10 +18,6 @@ field w lo k = w / 2 ^ lo % 2 ^ k
 unfoldable pub put : ℕ → ℕ → ℕ → ℕ → ℕ
 put w lo k v = w / 2 ^ (lo + k) * 2 ^ (lo + k) + (v * 2 ^ lo + w % 2 ^ lo)
 
--- w with those bits zero
-unfoldable pub clear : ℕ → ℕ → ℕ → ℕ
-clear w lo k = put w lo k 0
-
 -- a multiple of 2 ^ (lo + k), as one of 2 ^ lo
 regroup : (a lo k : ℕ) → a * 2 ^ (lo + k) ≡ a * 2 ^ k * 2 ^ lo
 regroup a lo k = rw (pow-add 2 lo k, mul-comm (2 ^ lo) (2 ^ k), mul-assoc a (2 ^ k) (2 ^ lo))
@@ -32,13 +28,14 @@ low-of a r m s = rw (add-comm m s, regroup a s m) (mul-add-mod-self-right (a * 2
 
 -- what a field that is put leaves of the others, and of itself
 module _ (w lo k v : ℕ) (fits : ltb v (2 ^ k) ≡ true) where
+  -- the field with what stands below it
+  inner : v * 2 ^ lo + w % 2 ^ lo < 2 ^ (lo + k)
+  inner = rw (add-comm lo k, pow-add 2 k lo) (digits-lt (ltb-true v (2 ^ k) fits) (mod-lt w (pow-pos lo)))
+
   pub put-above : (lo' k' : ℕ) → leb (lo + k) lo' ≡ true → field (put w lo k v) lo' k' ≡ field w lo' k'
   unfolding field put
   put-above lo' k' h = above (le-dest (leb→le (lo + k) lo' (subst T (sym h) tt)))
     where
-      inner : v * 2 ^ lo + w % 2 ^ lo < 2 ^ (lo + k)
-      inner = rw (add-comm lo k, pow-add 2 k lo) (digits-lt (ltb-true v (2 ^ k) fits) (mod-lt w (pow-pos lo)))
-
       above : (d : ℕ) × (lo + k + d ≡ lo') → (w / 2 ^ (lo + k) * 2 ^ (lo + k) + (v * 2 ^ lo + w % 2 ^ lo)) / 2 ^ lo' % 2 ^ k' ≡ w / 2 ^ lo' % 2 ^ k'
       above (d, e) = rw (← e, ← (P.shr-shr w (lo + k) d), ← (P.shr-shr (w / 2 ^ (lo + k) * 2 ^ (lo + k) + (v * 2 ^ lo + w % 2 ^ lo)) (lo + k) d), P.high (w / 2 ^ (lo + k)) (lo + k) inner)
 
@@ -70,23 +67,6 @@ module _ (w lo k v : ℕ) (fits : ltb v (2 ^ k) ≡ true) where
           narrow : lo ≡ d + (k' + lo')
           narrow = omega arith
 
--- what clearing a field leaves
-module _ (w lo k : ℕ) where
-  none : ltb 0 (2 ^ k) ≡ true
-  none = lt-ltb 0 (2 ^ k) (pow-pos k)
-
-  pub keeps-above : (lo' k' : ℕ) → leb (lo + k) lo' ≡ true → field (clear w lo k) lo' k' ≡ field w lo' k'
-  unfolding clear
-  keeps-above = put-above w lo k 0 none
-
-  pub cleared : field (clear w lo k) lo k ≡ 0
-  unfolding clear
-  cleared = put-at w lo k 0 none
-
-  pub keeps-below : (lo' k' : ℕ) → leb (lo' + k') lo ≡ true → field (clear w lo k) lo' k' ≡ field w lo' k'
-  unfolding clear
-  keeps-below = put-below w lo k 0 none
-
 -- a field of k bits is below 2 ^ k
 pub small : (w lo k : ℕ) → field w lo k < 2 ^ k
 unfolding field
@@ -112,21 +92,27 @@ within w lo k lo' k' h = inside (le-dest (leb→le (lo' + k') k (subst T (sym h)
         wide : k ≡ d + k' + lo'
         wide = omega arith
 
--- a word with a field cleared is no larger
-pub clear-le : (w lo k : ℕ) → clear w lo k ≤ w
-unfolding clear put
-clear-le w lo k = omega (arith, P.split w (lo + k), fewer)
-  where
-    fewer : w % 2 ^ lo ≤ w % 2 ^ (lo + k)
-    fewer = rw (add-comm lo k, P.mod-pow-add w k lo) (le-add-left (w % 2 ^ lo) (w / 2 ^ lo % 2 ^ k * 2 ^ lo))
+-- the lowest bits of a word
+pub low-bits : (w n : ℕ) → field w 0 n ≡ w % 2 ^ n
+unfolding field
+low-bits w n = rw (div-one w)
 
-pub clear-small : (w lo k : ℕ) {n : ℕ} → w < n → clear w lo k < n
-clear-small w lo k bound = lt-of-le-of-lt (clear-le w lo k) bound
+-- what a field that is put leaves of the lowest bits around it, and that it stays within them
+module _ (w lo k v n : ℕ) (fits : ltb v (2 ^ k) ≡ true) (h : leb (lo + k) n ≡ true) where
+  pub put-within : field (put w lo k v) 0 n ≡ put (field w 0 n) lo k v
+  unfolding put
+  put-within = low-bits (put w lo k v) n ∙ from (le-dest (leb→le (lo + k) n (subst T (sym h) tt))) ∙ ap (λ (x : ℕ). put x lo k v) (sym (low-bits w n))
+    where
+      lower : (d : ℕ) → w % 2 ^ (d + (lo + k)) % 2 ^ lo ≡ w % 2 ^ lo
+      lower d =
+          ap (λ (e : ℕ). w % 2 ^ e % 2 ^ lo) {x = d + (lo + k)} {y = d + k + lo} (omega arith)
+          ∙ P.mod-mod-pow w (d + k) lo
 
--- a word is what stands above a field, the field, and what stands below it
-pub parted : (w lo k : ℕ) → put w lo k (field w lo k) ≡ w
-unfolding field put
-parted w lo k = ap (λ (x : ℕ). w / 2 ^ (lo + k) * 2 ^ (lo + k) + x) lower ∙ P.split w (lo + k)
-  where
-    lower : w / 2 ^ lo % 2 ^ k * 2 ^ lo + w % 2 ^ lo ≡ w % 2 ^ (lo + k)
-    lower = rw (add-comm lo k) (sym (P.mod-pow-add w k lo))
+      from : (d : ℕ) × (lo + k + d ≡ n) → put w lo k v % 2 ^ n ≡ put (w % 2 ^ n) lo k v
+      from (d, e) =
+          rw (← e, add-comm (lo + k) d)
+          (P.mod-pow-add _ d (lo + k)
+          ∙ rw (P.high (w / 2 ^ (lo + k)) (lo + k) (inner w lo k v fits), P.low (w / 2 ^ (lo + k)) (lo + k) (inner w lo k v fits), P.field w d (lo + k), lower d))
+
+  pub put-small : w < 2 ^ n → put w lo k v < 2 ^ n
+  put-small bound = subst (λ (x : ℕ). x < 2 ^ n) (put-within ∙ ap (λ (x : ℕ). put x lo k v) (low-bits w n ∙ mod-eq-of-lt bound)) (small (put w lo k v) 0 n)

@@ -3,7 +3,7 @@ use borrow.Author.Needs.{needs}
 use mathlib.Core.Path.{sym, _∙_}
 use native.Mathlib.Nat.{le-refl}
 use native.Mathlib.Omega.{arith}
-use Rattle.home.proofs.Ways.{between, named-address, named-dp, named-status, named-extra, named-wide, named-ldst, named-media, named-block, named-preload, named-barrier, named-halfword}
+use Rattle.words.proofs.Named.{between, named-address, named-dp, named-status, named-extra, named-wide, named-ldst, named-media, named-block, named-preload, named-barrier, named-halfword}
 use Rattle.dp_words.proofs.Chosen.{by}
 use Rattle.words.proofs.word_of.Statement.{statement}
 use Rattle.words.proofs.word_of.Tie as tie
