@@ -1,19 +1,16 @@
 -- A row encodes to the home word of every word that has it for its answer's row, and is refused exactly if no word has. Assumes nothing.
-use mathlib.Core.Path.{_≡_, refl, sym, ap, ap₂, _∙_, subst}
+use mathlib.Core.Path.{_≡_, sym, ap, _∙_, subst}
 use mathlib.Core.Bool.{true}
 use mathlib.Core.List.{List, [], append-nil}
 use mathlib.Core.Logic.{_↔_}
 use Prim.Native.Nat.{ℕ, _%_, _^_, _<_}
 use native.Mathlib.Nat.{mod-eq-of-lt, mod-lt}
 use native.Mathlib.Omega.{arith}
-use borrow.Author.Tests.{eqb-true, eq-eqb}
+use borrow.Author.Tests.{eqb-true}
 use lib.Dec.{eqb}
 use lib.ListN.{length, getD}
 use lib.Pow.{pow-pos}
 use Rattle.word.specs.Choice.{both, parts, by-test}
-use Rattle.insn.specs.declared.Decoded.{Decoded}
-use Rattle.insn.specs.declared.Insn.{Insn}
-use Rattle.insn.specs.declared.Place.{Place}
 use Rattle.a32.specs.Decode.{decodeOf}
 use Rattle.home.specs.Home.{homeOf}
 use Rattle.home.specs.Word.{wordOf}
@@ -21,11 +18,11 @@ use Rattle.home.proofs.Same.{home-decodes, home-small, leads-home}
 use Rattle.words.specs.Candidate.{candidate}
 use Rattle.value.specs.Value.{insnFrom}
 use Rattle.packed.specs.Packed.{packed}
-use Rattle.row.specs.Row.{ROW, rowOf, numbersOf, holds}
+use Rattle.row.specs.Row.{rowOf, numbersOf, holds}
 use Rattle.row.proofs.Back.{row-back}
 use Rattle.row.proofs.Holds.{holds-exactly}
 use Rattle.row.proofs.Sizes.{row-size}
-use Rattle.brassdozen.specs.Given.{whole, Answers, checked, encodedOf}
+use Rattle.brassdozen.specs.Given.{whole, Answers, encodedOf}
 use Rattle.brassdozen.proofs.Fit.{fits}
 
 -- the comparison passes exactly if the row is that of the answer
