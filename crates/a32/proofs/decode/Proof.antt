@@ -5,15 +5,6 @@ use Rattle.a32.specs.Decode.{decodeOf}
 use Rattle.a32.proofs.decode.Statement.{statement}
 use Rattle.a32.proofs.decode.Tie as tie
 
-bits-requires : tie.Need-bits-requires
-bits-requires c κs = search needs
-
-bits-requires-2 : tie.Need-bits-requires-2
-bits-requires-2 c κs = search needs
-
-unconditional-requires : tie.Need-unconditional-requires
-unconditional-requires c κs = search needs
-
 returns : tie.Need-returns
 unfolding decodeOf
 returns c =
@@ -23,9 +14,6 @@ returns c =
       ← (c .before .before .bits2 .ensures),
       ← (c .before .before .before .bits .ensures),
     )
-
-refuse-requires : tie.Need-refuse-requires
-refuse-requires c κs = search needs
 
 returns-2 : tie.Need-returns-2
 unfolding decodeOf
@@ -37,9 +25,6 @@ returns-2 c =
       ← (c .before .before .before .bits2 .ensures),
       ← (c .before .before .before .before .bits .ensures),
     )
-
-group-requires : tie.Need-group-requires
-group-requires c κs = search needs
 
 returns-3 : tie.Need-returns-3
 unfolding decodeOf
@@ -54,13 +39,5 @@ returns-3 c =
 
 pub decode-spec : {M : Type 1} → statement M
 decode-spec =
-    tie.close
-    (tie.spec
-    bits-requires
-    bits-requires-2
-    unconditional-requires
-    returns
-    refuse-requires
-    returns-2
-    group-requires
-    returns-3)
+    tie.close (tie.spec (search needs) (search needs) (search needs) returns (search needs)
+    returns-2 (search needs) returns-3)

@@ -4,15 +4,6 @@ use borrow.Author.Tests.{le-ltb, lt-ltb}
 use Rattle.a32.proofs.decode_bytes.Statement.{statement}
 use Rattle.a32.proofs.decode_bytes.Tie as tie
 
-refuse-requires : tie.Need-refuse-requires
-refuse-requires c κs = search needs
-
-word-at-requires : tie.Need-word-at-requires
-word-at-requires c κs = search needs
-
-decode-requires : tie.Need-decode-requires
-decode-requires c κs = search needs
-
 returns : tie.Need-returns
 returns c = simp (c .refuse .ensures, lt-ltb _ _ (c .before .if1 .taken))
 
@@ -21,4 +12,4 @@ returns-2 c = simp (c .decode .ensures, c .before .word-at .ensures, le-ltb _ _ 
 
 pub decode-bytes-spec : {M : Type 1} → statement M
 decode-bytes-spec =
-    tie.close (tie.spec refuse-requires word-at-requires decode-requires returns returns-2)
+    tie.close (tie.spec (search needs) (search needs) (search needs) returns returns-2)

@@ -5,21 +5,6 @@ use Rattle.a32.specs.Decode.{dpMiscOf}
 use Rattle.a32.proofs.dp_misc.Statement.{statement}
 use Rattle.a32.proofs.dp_misc.Tie as tie
 
-bit-requires : tie.Need-bit-requires
-bit-requires c κs = search needs
-
-bit-requires-2 : tie.Need-bit-requires-2
-bit-requires-2 c κs = search needs
-
-plain-requires : tie.Need-plain-requires
-plain-requires c κs = search needs
-
-plain-requires-2 : tie.Need-plain-requires-2
-plain-requires-2 c κs = search needs
-
-extra-requires : tie.Need-extra-requires
-extra-requires c κs = search needs
-
 returns : tie.Need-returns
 unfolding dpMiscOf
 returns c =
@@ -54,13 +39,5 @@ returns-3 c =
 
 pub dp-misc-spec : {M : Type 1} → statement M
 dp-misc-spec =
-    tie.close
-    (tie.spec
-    bit-requires
-    bit-requires-2
-    plain-requires
-    plain-requires-2
-    extra-requires
-    returns
-    returns-2
-    returns-3)
+    tie.close (tie.spec (search needs) (search needs) (search needs) (search needs) (search needs)
+    returns returns-2 returns-3)

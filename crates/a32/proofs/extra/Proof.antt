@@ -5,21 +5,6 @@ use Rattle.a32.specs.Decode.{extraOf}
 use Rattle.a32.proofs.extra.Statement.{statement}
 use Rattle.a32.proofs.extra.Tie as tie
 
-bits-requires : tie.Need-bits-requires
-bits-requires c κs = search needs
-
-bit-requires : tie.Need-bit-requires
-bit-requires c κs = search needs
-
-multiply-requires : tie.Need-multiply-requires
-multiply-requires c κs = search needs
-
-sync-requires : tie.Need-sync-requires
-sync-requires c κs = search needs
-
-extra-ldst-requires : tie.Need-extra-ldst-requires
-extra-ldst-requires c κs = search needs
-
 returns : tie.Need-returns
 unfolding extraOf
 returns c =
@@ -54,13 +39,5 @@ returns-3 c =
 
 pub extra-spec : {M : Type 1} → statement M
 extra-spec =
-    tie.close
-    (tie.spec
-    bits-requires
-    bit-requires
-    multiply-requires
-    sync-requires
-    extra-ldst-requires
-    returns
-    returns-2
-    returns-3)
+    tie.close (tie.spec (search needs) (search needs) (search needs) (search needs) (search needs)
+    returns returns-2 returns-3)

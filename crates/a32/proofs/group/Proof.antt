@@ -5,36 +5,6 @@ use Rattle.a32.specs.Decode.{groupOf}
 use Rattle.a32.proofs.group.Statement.{statement}
 use Rattle.a32.proofs.group.Tie as tie
 
-bits-requires : tie.Need-bits-requires
-bits-requires c κs = search needs
-
-bit-requires : tie.Need-bit-requires
-bit-requires c κs = search needs
-
-dp-misc-requires : tie.Need-dp-misc-requires
-dp-misc-requires c κs = search needs
-
-dp-imm-requires : tie.Need-dp-imm-requires
-dp-imm-requires c κs = search needs
-
-ldst-requires : tie.Need-ldst-requires
-ldst-requires c κs = search needs
-
-ldst-requires-2 : tie.Need-ldst-requires-2
-ldst-requires-2 c κs = search needs
-
-media-requires : tie.Need-media-requires
-media-requires c κs = search needs
-
-block-requires : tie.Need-block-requires
-block-requires c κs = search needs
-
-branch-requires : tie.Need-branch-requires
-branch-requires c κs = search needs
-
-refuse-requires : tie.Need-refuse-requires
-refuse-requires c κs = search needs
-
 returns : tie.Need-returns
 unfolding groupOf
 returns c =
@@ -124,23 +94,6 @@ returns-8 c =
 
 pub group-spec : {M : Type 1} → statement M
 group-spec =
-    tie.close
-    (tie.spec
-    bits-requires
-    bit-requires
-    dp-misc-requires
-    dp-imm-requires
-    ldst-requires
-    ldst-requires-2
-    media-requires
-    block-requires
-    branch-requires
-    refuse-requires
-    returns
-    returns-2
-    returns-3
-    returns-4
-    returns-5
-    returns-6
-    returns-7
-    returns-8)
+    tie.close (tie.spec (search needs) (search needs) (search needs) (search needs) (search needs)
+    (search needs) (search needs) (search needs) (search needs) (search needs) returns returns-2
+    returns-3 returns-4 returns-5 returns-6 returns-7 returns-8)

@@ -5,12 +5,6 @@ use Rattle.a32.specs.Decode.{controlOf}
 use Rattle.a32.proofs.is_control.Statement.{statement}
 use Rattle.a32.proofs.is_control.Tie as tie
 
-bits-requires : tie.Need-bits-requires
-bits-requires c κs = search needs
-
-bit-requires : tie.Need-bit-requires
-bit-requires c κs = search needs
-
 returns : tie.Need-returns
 unfolding controlOf
 returns c = simp (c .if1 .taken, ← (c .before .bit .ensures), ← (c .before .before .bits .ensures))
@@ -20,4 +14,4 @@ unfolding controlOf
 returns-2 c = simp (ne-eqb _ _ (c .if1 .left), ← (c .before .bit .ensures), ← (c .before .before .bits .ensures))
 
 pub is-control-spec : {M : Type 1} → statement M
-is-control-spec = tie.close (tie.spec bits-requires bit-requires returns returns-2)
+is-control-spec = tie.close (tie.spec (search needs) (search needs) returns returns-2)

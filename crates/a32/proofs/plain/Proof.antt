@@ -5,21 +5,6 @@ use Rattle.a32.specs.Decode.{plainOf}
 use Rattle.a32.proofs.plain.Statement.{statement}
 use Rattle.a32.proofs.plain.Tie as tie
 
-bit-requires : tie.Need-bit-requires
-bit-requires c κs = search needs
-
-is-control-requires : tie.Need-is-control-requires
-is-control-requires c κs = search needs
-
-misc-requires : tie.Need-misc-requires
-misc-requires c κs = search needs
-
-halfword-requires : tie.Need-halfword-requires
-halfword-requires c κs = search needs
-
-dp-reg-requires : tie.Need-dp-reg-requires
-dp-reg-requires c κs = search needs
-
 returns : tie.Need-returns
 unfolding plainOf
 returns c =
@@ -54,13 +39,5 @@ returns-3 c =
 
 pub plain-spec : {M : Type 1} → statement M
 plain-spec =
-    tie.close
-    (tie.spec
-    bit-requires
-    is-control-requires
-    misc-requires
-    halfword-requires
-    dp-reg-requires
-    returns
-    returns-2
-    returns-3)
+    tie.close (tie.spec (search needs) (search needs) (search needs) (search needs) (search needs)
+    returns returns-2 returns-3)

@@ -3,12 +3,6 @@ use borrow.Author.Needs.{needs}
 use Rattle.arm.proofs.at.Statement.{statement}
 use Rattle.arm.proofs.at.Tie as tie
 
-cond-of-requires : tie.Need-cond-of-requires
-cond-of-requires c κs = search needs
-
-new-requires : tie.Need-new-requires
-new-requires c κs = search needs
-
 returns : tie.Need-returns
 returns c =
     simp (
@@ -17,4 +11,4 @@ returns c =
     )
 
 pub at-spec : {M : Type 1} → statement M
-at-spec = tie.close (tie.spec cond-of-requires new-requires returns)
+at-spec = tie.close (tie.spec (search needs) (search needs) returns)

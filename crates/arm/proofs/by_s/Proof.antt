@@ -4,9 +4,6 @@ use borrow.Author.Tests.{ne-eqb}
 use Rattle.arm.proofs.by_s.Statement.{statement}
 use Rattle.arm.proofs.by_s.Tie as tie
 
-bit-requires : tie.Need-bit-requires
-bit-requires c κs = search needs
-
 returns : tie.Need-returns
 returns c =
     simp (
@@ -22,4 +19,4 @@ returns-2 c =
     )
 
 pub by-s-spec : {M : Type 1} → statement M
-by-s-spec = tie.close (tie.spec bit-requires returns returns-2)
+by-s-spec = tie.close (tie.spec (search needs) returns returns-2)

@@ -7,11 +7,8 @@ use Rattle.insn.specs.declared.Operand.the-variants.{Count}
 use Rattle.arm.proofs.count.Statement.{statement}
 use Rattle.arm.proofs.count.Tie as tie
 
-positive-requires : tie.Need-positive-requires
-positive-requires c κs = search needs
-
 returns : tie.Need-returns
 returns c = ap Count (toZ-ofZ w64 (c .positive .result) (record { sfits = c .positive .ok }) ∙ c .positive .ensures)
 
 pub count-spec : {M : Type 1} → statement M
-count-spec = tie.close (tie.spec positive-requires returns)
+count-spec = tie.close (tie.spec (search needs) returns)

@@ -3,12 +3,6 @@ use borrow.Author.Needs.{needs}
 use Rattle.arm.proofs.decode_shift.Statement.{statement}
 use Rattle.arm.proofs.decode_shift.Tie as tie
 
-shift-kind-requires : tie.Need-shift-kind-requires
-shift-kind-requires c κs = search needs
-
-shift-amount-requires : tie.Need-shift-amount-requires
-shift-amount-requires c κs = search needs
-
 returns : tie.Need-returns
 returns c =
     simp (
@@ -17,4 +11,4 @@ returns c =
     )
 
 pub decode-shift-spec : {M : Type 1} → statement M
-decode-shift-spec = tie.close (tie.spec shift-kind-requires shift-amount-requires returns)
+decode-shift-spec = tie.close (tie.spec (search needs) (search needs) returns)

@@ -5,12 +5,6 @@ use Rattle.arm.specs.Shifts.{plainOf}
 use Rattle.arm.proofs.is_plain.Statement.{statement}
 use Rattle.arm.proofs.is_plain.Tie as tie
 
-bits-requires : tie.Need-bits-requires
-bits-requires c κs = search needs
-
-bits-requires-2 : tie.Need-bits-requires-2
-bits-requires-2 c κs = search needs
-
 returns : tie.Need-returns
 unfolding plainOf
 returns c =
@@ -30,4 +24,4 @@ returns-2 c =
     )
 
 pub is-plain-spec : {M : Type 1} → statement M
-is-plain-spec = tie.close (tie.spec bits-requires bits-requires-2 returns returns-2)
+is-plain-spec = tie.close (tie.spec (search needs) (search needs) returns returns-2)

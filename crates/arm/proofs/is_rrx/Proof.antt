@@ -5,12 +5,6 @@ use Rattle.arm.specs.Shifts.{rrxOf}
 use Rattle.arm.proofs.is_rrx.Statement.{statement}
 use Rattle.arm.proofs.is_rrx.Tie as tie
 
-bits-requires : tie.Need-bits-requires
-bits-requires c κs = search needs
-
-bits-requires-2 : tie.Need-bits-requires-2
-bits-requires-2 c κs = search needs
-
 returns : tie.Need-returns
 unfolding rrxOf
 returns c = simp (c .if1 .taken, ← (c .before .bits2 .ensures), ← (c .before .before .bits .ensures))
@@ -20,4 +14,4 @@ unfolding rrxOf
 returns-2 c = simp (ne-eqb _ _ (c .if1 .left), ← (c .before .bits2 .ensures), ← (c .before .before .bits .ensures))
 
 pub is-rrx-spec : {M : Type 1} → statement M
-is-rrx-spec = tie.close (tie.spec bits-requires bits-requires-2 returns returns-2)
+is-rrx-spec = tie.close (tie.spec (search needs) (search needs) returns returns-2)

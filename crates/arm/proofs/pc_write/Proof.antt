@@ -3,12 +3,6 @@ use borrow.Author.Needs.{needs}
 use Rattle.arm.proofs.pc_write.Statement.{statement}
 use Rattle.arm.proofs.pc_write.Tie as tie
 
-reg-at-requires : tie.Need-reg-at-requires
-reg-at-requires c κs = search needs
-
-is-pc-requires : tie.Need-is-pc-requires
-is-pc-requires c κs = search needs
-
 returns : tie.Need-returns
 returns c = simp (c .if1 .taken, ← (rw (c .before .before .reg-at .ensures) at (c .before .is-pc .ensures)))
 
@@ -16,4 +10,4 @@ returns-2 : tie.Need-returns-2
 returns-2 c = simp (c .if1 .left, ← (rw (c .before .before .reg-at .ensures) at (c .before .is-pc .ensures)))
 
 pub pc-write-spec : {M : Type 1} → statement M
-pc-write-spec = tie.close (tie.spec reg-at-requires is-pc-requires returns returns-2)
+pc-write-spec = tie.close (tie.spec (search needs) (search needs) returns returns-2)

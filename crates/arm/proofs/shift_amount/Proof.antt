@@ -4,9 +4,6 @@ use borrow.Author.Tests.{ne-eqb}
 use Rattle.arm.proofs.shift_amount.Statement.{statement}
 use Rattle.arm.proofs.shift_amount.Tie as tie
 
-cast-result : tie.Need-cast-result
-cast-result c = search needs
-
 returns : tie.Need-returns
 returns c = simp (ne-eqb _ _ (c .if1 .taken))
 
@@ -33,4 +30,4 @@ returns-4 c =
     )
 
 pub shift-amount-spec : {M : Type 1} → statement M
-shift-amount-spec = tie.close (tie.spec cast-result returns returns-2 returns-3 returns-4)
+shift-amount-spec = tie.close (tie.spec (search needs) returns returns-2 returns-3 returns-4)

@@ -3,15 +3,6 @@ use borrow.Author.Needs.{needs}
 use Rattle.arm.proofs.shift_by_reg.Statement.{statement}
 use Rattle.arm.proofs.shift_by_reg.Tie as tie
 
-bits-requires : tie.Need-bits-requires
-bits-requires c κs = search needs
-
-shift-kind-requires : tie.Need-shift-kind-requires
-shift-kind-requires c κs = search needs
-
-reg-at-requires : tie.Need-reg-at-requires
-reg-at-requires c κs = search needs
-
 returns : tie.Need-returns
 returns c =
     simp (
@@ -21,4 +12,4 @@ returns c =
     )
 
 pub shift-by-reg-spec : {M : Type 1} → statement M
-shift-by-reg-spec = tie.close (tie.spec bits-requires shift-kind-requires reg-at-requires returns)
+shift-by-reg-spec = tie.close (tie.spec (search needs) (search needs) (search needs) returns)

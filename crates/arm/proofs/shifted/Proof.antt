@@ -4,12 +4,6 @@ use Rattle.word.specs.Field.{small}
 use Rattle.arm.proofs.shifted.Statement.{statement}
 use Rattle.arm.proofs.shifted.Tie as tie
 
-is-plain-requires : tie.Need-is-plain-requires
-is-plain-requires c κs = search needs
-
-op-at-requires : tie.Need-op-at-requires
-op-at-requires c κs = search needs
-
 returns : tie.Need-returns
 returns c =
     simp (
@@ -18,17 +12,8 @@ returns c =
       ← (c .before .before .is-plain .ensures),
     )
 
-bits-requires : tie.Need-bits-requires
-bits-requires c κs = search needs
-
-bits-requires-2 : tie.Need-bits-requires-2
-bits-requires-2 c κs = search needs
-
 decode-shift-requires : tie.Need-decode-shift-requires
 decode-shift-requires c κs = rw (c .bits2 .ensures) (small _ 7 5)
-
-reg-at-requires : tie.Need-reg-at-requires
-reg-at-requires c κs = search needs
 
 returns-2 : tie.Need-returns-2
 returns-2 c =
@@ -43,13 +28,5 @@ returns-2 c =
 
 pub shifted-spec : {M : Type 1} → statement M
 shifted-spec =
-    tie.close
-    (tie.spec
-    is-plain-requires
-    op-at-requires
-    returns
-    bits-requires
-    bits-requires-2
-    decode-shift-requires
-    reg-at-requires
-    returns-2)
+    tie.close (tie.spec (search needs) (search needs) returns (search needs) (search needs)
+    decode-shift-requires (search needs) returns-2)

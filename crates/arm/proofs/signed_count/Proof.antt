@@ -7,11 +7,8 @@ use Rattle.insn.specs.declared.Operand.the-variants.{Count}
 use Rattle.arm.proofs.signed_count.Statement.{statement}
 use Rattle.arm.proofs.signed_count.Tie as tie
 
-as-signed-requires : tie.Need-as-signed-requires
-as-signed-requires c κs = search needs
-
 returns : tie.Need-returns
 returns c = ap Count (toZ-ofZ w64 (c .as-signed .result) (record { sfits = c .as-signed .ok }) ∙ c .as-signed .ensures)
 
 pub signed-count-spec : {M : Type 1} → statement M
-signed-count-spec = tie.close (tie.spec as-signed-requires returns)
+signed-count-spec = tie.close (tie.spec (search needs) returns)

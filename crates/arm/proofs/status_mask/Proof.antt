@@ -5,14 +5,8 @@ use Rattle.word.specs.Layout.{joined-small}
 use Rattle.arm.proofs.status_mask.Statement.{statement}
 use Rattle.arm.proofs.status_mask.Tie as tie
 
-bits-then-requires : tie.Need-bits-then-requires
-bits-then-requires c κs = search needs
-
 cast-t3 : tie.Need-cast-t3
 cast-t3 c = record { fits = rw (c .bits-then .ensures) (omega (arith, joined-small (c .before .args .w) 22 1 16 4)) }
 
-returns : tie.Need-returns
-returns c = search needs
-
 pub status-mask-spec : {M : Type 1} → statement M
-status-mask-spec = tie.close (tie.spec bits-then-requires cast-t3 returns)
+status-mask-spec = tie.close (tie.spec (search needs) cast-t3 (λ c. search needs))

@@ -5,15 +5,6 @@ use Rattle.brassdozen.proofs.From.{from}
 use Rattle.brassdozen.proofs.brassdozen_decode.Statement.{statement}
 use Rattle.brassdozen.proofs.brassdozen_decode.Tie as tie
 
-decode-requires : tie.Need-decode-requires
-decode-requires c κs = search needs
-
-put-answer-requires : tie.Need-put-answer-requires
-put-answer-requires c κs = search needs
-
-same-length : tie.Need-same-length
-same-length c = search needs
-
 returns : tie.Need-returns
 returns c =
     let put = c .before .before in
@@ -22,4 +13,4 @@ returns c =
 
 pub brassdozen-decode-spec : {M : Type 1} → statement M
 brassdozen-decode-spec =
-    tie.close (tie.spec decode-requires put-answer-requires same-length returns)
+    tie.close (tie.spec (search needs) (search needs) (λ c. search needs) returns)

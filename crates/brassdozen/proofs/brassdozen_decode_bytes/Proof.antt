@@ -5,15 +5,6 @@ use Rattle.brassdozen.proofs.From.{from}
 use Rattle.brassdozen.proofs.brassdozen_decode_bytes.Statement.{statement}
 use Rattle.brassdozen.proofs.brassdozen_decode_bytes.Tie as tie
 
-decode-bytes-requires : tie.Need-decode-bytes-requires
-decode-bytes-requires c κs = search needs
-
-put-answer-requires : tie.Need-put-answer-requires
-put-answer-requires c κs = search needs
-
-same-length : tie.Need-same-length
-same-length c = search needs
-
 returns : tie.Need-returns
 returns c =
     let put = c .before .before in
@@ -22,4 +13,4 @@ returns c =
 
 pub brassdozen-decode-bytes-spec : {M : Type 1} → statement M
 brassdozen-decode-bytes-spec =
-    tie.close (tie.spec decode-bytes-requires put-answer-requires same-length returns)
+    tie.close (tie.spec (search needs) (search needs) (λ c. search needs) returns)

@@ -6,27 +6,6 @@ use Rattle.brassdozen.proofs.From.{encoded}
 use Rattle.brassdozen.proofs.brassdozen_encode.Statement.{statement}
 use Rattle.brassdozen.proofs.brassdozen_encode.Tie as tie
 
-insn-from-requires : tie.Need-insn-from-requires
-insn-from-requires c κs = search needs
-
-word-of-requires : tie.Need-word-of-requires
-word-of-requires c κs = search needs
-
-decode-requires : tie.Need-decode-requires
-decode-requires c κs = search needs
-
-is-row-requires : tie.Need-is-row-requires
-is-row-requires c κs = search needs
-
-pack-requires : tie.Need-pack-requires
-pack-requires c κs = search needs
-
-pack-requires-2 : tie.Need-pack-requires-2
-pack-requires-2 c κs = search needs
-
-pack-requires-3 : tie.Need-pack-requires-3
-pack-requires-3 c κs = search needs
-
 returns : tie.Need-returns
 returns c =
     let answer = c .before .before .before .before .before in
@@ -56,15 +35,5 @@ returns-3 c =
 
 pub brassdozen-encode-spec : {M : Type 1} → statement M
 brassdozen-encode-spec =
-    tie.close
-    (tie.spec
-    insn-from-requires
-    word-of-requires
-    decode-requires
-    is-row-requires
-    pack-requires
-    pack-requires-2
-    pack-requires-3
-    returns
-    returns-2
-    returns-3)
+    tie.close (tie.spec (search needs) (search needs) (search needs) (search needs) (search needs)
+    (search needs) (search needs) returns returns-2 returns-3)

@@ -6,14 +6,8 @@ use Rattle.packed.specs.Packed.{packed}
 use Rattle.brassdozen.proofs.brassdozen_home.Statement.{statement}
 use Rattle.brassdozen.proofs.brassdozen_home.Tie as tie
 
-home-requires : tie.Need-home-requires
-home-requires c κs = search needs
-
-pack-requires : tie.Need-pack-requires
-pack-requires c κs = search needs
-
 returns : tie.Need-returns
 returns c = c .pack .ensures ∙ ap (λ (h : Encoded). packed (h .refusal) (h .word)) (c .before .home .ensures)
 
 pub brassdozen-home-spec : {M : Type 1} → statement M
-brassdozen-home-spec = tie.close (tie.spec home-requires pack-requires returns)
+brassdozen-home-spec = tie.close (tie.spec (search needs) (search needs) returns)

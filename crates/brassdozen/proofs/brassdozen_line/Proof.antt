@@ -11,20 +11,11 @@ use Rattle.brassdozen.proofs.From.{no-longer}
 use Rattle.brassdozen.proofs.brassdozen_line.Statement.{statement}
 use Rattle.brassdozen.proofs.brassdozen_line.Tie as tie
 
-line-requires : tie.Need-line-requires
-line-requires c κs = search needs
-
 cast-pack : tie.Need-cast-pack
 cast-pack c =
     let start = c .before .before .before .before .before .before in
     let short = no-longer (lineOf (start .args .addr) (start .args .word)) (now (start .args .out)) (c .before .before .before .line .ensures .0) in
     record { fits = omega (arith, short, line-fits (start .args .addr) (start .args .word)) }
-
-pack-requires : tie.Need-pack-requires
-pack-requires c κs = search needs
-
-same-length : tie.Need-same-length
-same-length c = search needs
 
 returns : tie.Need-returns
 returns c = (
@@ -34,4 +25,4 @@ returns c = (
 
 pub brassdozen-line-spec : {M : Type 1} → statement M
 brassdozen-line-spec =
-    tie.close (tie.spec line-requires cast-pack pack-requires same-length returns)
+    tie.close (tie.spec (search needs) cast-pack (search needs) (λ c. search needs) returns)

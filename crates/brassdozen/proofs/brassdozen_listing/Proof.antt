@@ -11,20 +11,11 @@ use Rattle.brassdozen.proofs.From.{no-longer}
 use Rattle.brassdozen.proofs.brassdozen_listing.Statement.{statement}
 use Rattle.brassdozen.proofs.brassdozen_listing.Tie as tie
 
-listing-requires : tie.Need-listing-requires
-listing-requires c κs = search needs
-
 cast-pack : tie.Need-cast-pack
 cast-pack c =
     let start = c .before .before .before .before .before .before .before in
     let short = no-longer (listingOf (now (start .args .section))) (now (start .args .out)) (c .before .before .before .listing .ensures .0) in
     record { fits = omega (arith, short, listing-fits (now (start .args .section))) }
-
-pack-requires : tie.Need-pack-requires
-pack-requires c κs = search needs
-
-same-length : tie.Need-same-length
-same-length c = search needs
 
 returns : tie.Need-returns
 returns c = (
@@ -34,4 +25,4 @@ returns c = (
 
 pub brassdozen-listing-spec : {M : Type 1} → statement M
 brassdozen-listing-spec =
-    tie.close (tie.spec listing-requires cast-pack pack-requires same-length returns)
+    tie.close (tie.spec (search needs) cast-pack (search needs) (λ c. search needs) returns)

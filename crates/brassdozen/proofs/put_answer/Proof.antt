@@ -4,12 +4,6 @@ use borrow.Author.Tests.{ne-eqb}
 use Rattle.brassdozen.proofs.put_answer.Statement.{statement}
 use Rattle.brassdozen.proofs.put_answer.Tie as tie
 
-put-row-requires : tie.Need-put-row-requires
-put-row-requires c κs = search needs
-
-same-length : tie.Need-same-length
-same-length c = search needs
-
 returns : tie.Need-returns
 returns c =
     let then1 = c .before .before .before .before in
@@ -19,4 +13,4 @@ returns-2 : tie.Need-returns-2
 returns-2 c = (simp (ne-eqb _ _ (c .if1 .left)), simp (ne-eqb _ _ (c .if1 .left)))
 
 pub put-answer-spec : {M : Type 1} → statement M
-put-answer-spec = tie.close (tie.spec put-row-requires same-length returns returns-2)
+put-answer-spec = tie.close (tie.spec (search needs) (λ c. search needs) returns returns-2)

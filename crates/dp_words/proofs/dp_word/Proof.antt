@@ -4,15 +4,6 @@ use borrow.Author.Tests.{le-ltb, lt-ltb, ne-eqb}
 use Rattle.dp_words.proofs.dp_word.Statement.{statement}
 use Rattle.dp_words.proofs.dp_word.Tie as tie
 
-operation-requires : tie.Need-operation-requires
-operation-requires c κs = search needs
-
-setting-requires : tie.Need-setting-requires
-setting-requires c κs = search needs
-
-operation-word-requires : tie.Need-operation-word-requires
-operation-word-requires c κs = search needs
-
 returns : tie.Need-returns
 returns c =
     simp (
@@ -22,12 +13,6 @@ returns c =
       lt-ltb _ _ (c .before .before .before .if1 .taken),
     )
 
-cast-shift-word : tie.Need-cast-shift-word
-cast-shift-word c = search needs
-
-shift-word-requires : tie.Need-shift-word-requires
-shift-word-requires c κs = search needs
-
 returns-2 : tie.Need-returns-2
 returns-2 c =
     simp (
@@ -35,12 +20,6 @@ returns-2 c =
       lt-ltb _ _ (c .before .if2 .taken),
       le-ltb _ _ (c .before .before .if1 .left),
     )
-
-cast-shift-word-2 : tie.Need-cast-shift-word-2
-cast-shift-word-2 c = search needs
-
-shift-word-requires-2 : tie.Need-shift-word-requires-2
-shift-word-requires-2 c κs = search needs
 
 returns-3 : tie.Need-returns-3
 returns-3 c =
@@ -50,12 +29,6 @@ returns-3 c =
       le-ltb _ _ (c .before .before .if2 .left),
       le-ltb _ _ (c .before .before .before .if1 .left),
     )
-
-shift-word-requires-3 : tie.Need-shift-word-requires-3
-shift-word-requires-3 c κs = search needs
-
-shift-word-requires-4 : tie.Need-shift-word-requires-4
-shift-word-requires-4 c κs = search needs
 
 returns-4 : tie.Need-returns-4
 returns-4 c = simp (c .shift-word3 .ensures, c .before .if4 .taken)
@@ -72,19 +45,6 @@ returns-5 c =
 
 pub dp-word-spec : {M : Type 1} → statement M
 dp-word-spec =
-    tie.close
-    (tie.spec
-    operation-requires
-    setting-requires
-    operation-word-requires
-    returns
-    cast-shift-word
-    shift-word-requires
-    returns-2
-    cast-shift-word-2
-    shift-word-requires-2
-    returns-3
-    shift-word-requires-3
-    shift-word-requires-4
-    returns-4
-    returns-5)
+    tie.close (tie.spec (search needs) (search needs) (search needs) returns (search needs)
+    (search needs) returns-2 (search needs) (search needs) returns-3 (search needs) (search needs)
+    returns-4 returns-5)

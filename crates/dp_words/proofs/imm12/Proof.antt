@@ -5,24 +5,6 @@ use Rattle.home.specs.WordDp.{imm12}
 use Rattle.dp_words.proofs.imm12.Statement.{statement}
 use Rattle.dp_words.proofs.imm12.Tie as tie
 
-number-requires : tie.Need-number-requires
-number-requires c κs = search needs
-
-number-requires-2 : tie.Need-number-requires-2
-number-requires-2 c κs = search needs
-
-pair-requires : tie.Need-pair-requires
-pair-requires c κs = search needs
-
-cast-result : tie.Need-cast-result
-cast-result c = search needs
-
-number-requires-3 : tie.Need-number-requires-3
-number-requires-3 c κs = search needs
-
-least-requires : tie.Need-least-requires
-least-requires c κs = search needs
-
 returns : tie.Need-returns
 unfolding imm12
 returns c =
@@ -39,13 +21,5 @@ returns-2 c = simp (c .least .ensures, c .before .number3 .ensures, ne-eqb _ _ (
 
 pub imm12-spec : {M : Type 1} → statement M
 imm12-spec =
-    tie.close
-    (tie.spec
-    number-requires
-    number-requires-2
-    pair-requires
-    cast-result
-    number-requires-3
-    least-requires
-    returns
-    returns-2)
+    tie.close (tie.spec (search needs) (search needs) (search needs) (search needs) (search needs)
+    (search needs) returns returns-2)

@@ -4,15 +4,6 @@ use borrow.Author.Tests.{le-ltb, lt-ltb}
 use Rattle.dp_words.proofs.operation.Statement.{statement}
 use Rattle.dp_words.proofs.operation.Tie as tie
 
-slice-aggregate-entry : tie.Need-slice-aggregate-entry
-slice-aggregate-entry c = search needs
-
-past-requires : tie.Need-past-requires
-past-requires c κs = search needs
-
-entry-requires : tie.Need-entry-requires
-entry-requires c κs = search needs
-
 returns : tie.Need-returns
 returns c = simp (lt-ltb _ _ (c .if1 .taken))
 
@@ -25,5 +16,4 @@ returns-2 c =
     )
 
 pub operation-spec : {M : Type 1} → statement M
-operation-spec =
-    tie.close (tie.spec slice-aggregate-entry past-requires entry-requires returns returns-2)
+operation-spec = tie.close (tie.spec (search needs) (search needs) (search needs) returns returns-2)

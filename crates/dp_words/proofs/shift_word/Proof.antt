@@ -4,21 +4,6 @@ use native.Mathlib.Nat.{add-mod-mod}
 use Rattle.dp_words.proofs.shift_word.Statement.{statement}
 use Rattle.dp_words.proofs.shift_word.Tie as tie
 
-register-at-requires : tie.Need-register-at-requires
-register-at-requires c κs = search needs
-
-at-requires : tie.Need-at-requires
-at-requires c κs = search needs
-
-shift12-requires : tie.Need-shift12-requires
-shift12-requires c κs = search needs
-
-register-at-requires-2 : tie.Need-register-at-requires-2
-register-at-requires-2 c κs = search needs
-
-laid-requires : tie.Need-laid-requires
-laid-requires c κs = search needs
-
 returns : tie.Need-returns
 returns c =
     simp (
@@ -32,11 +17,5 @@ returns c =
 
 pub shift-word-spec : {M : Type 1} → statement M
 shift-word-spec =
-    tie.close
-    (tie.spec
-    register-at-requires
-    at-requires
-    shift12-requires
-    register-at-requires-2
-    laid-requires
+    tie.close (tie.spec (search needs) (search needs) (search needs) (search needs) (search needs)
     returns)

@@ -7,20 +7,8 @@ use Rattle.dp_words.proofs.Turned.{one-shifted, low-kept, low-fits, hig
 use Rattle.dp_words.proofs.turned_left.Statement.{statement}
 use Rattle.dp_words.proofs.turned_left.Tie as tie
 
-sub-high : tie.Need-sub-high
-sub-high c = search needs
-
-shl-result : tie.Need-shl-result
-shl-result c = search needs
-
 rem-result : tie.Need-rem-result
 rem-result c = rw (one-shifted (32 - c .args .n) (omega arith)) (pow-pos _)
-
-shl-result-2 : tie.Need-shl-result-2
-shl-result-2 c = search needs
-
-shr-result : tie.Need-shr-result
-shr-result c = search needs
 
 add-result : tie.Need-add-result
 add-result c =
@@ -34,4 +22,5 @@ returns c = rw (one-shifted (32 - c .args .n) (omega arith), low-kept (c .args .
 
 pub turned-left-spec : {M : Type 1} → statement M
 turned-left-spec =
-    tie.close (tie.spec sub-high shl-result rem-result shl-result-2 shr-result add-result returns)
+    tie.close (tie.spec (search needs) (search needs) rem-result (search needs) (search needs)
+    add-result returns)

@@ -6,12 +6,6 @@ use Rattle.encode.proofs.Encodes.{homed}
 use Rattle.encode.proofs.home.Statement.{statement}
 use Rattle.encode.proofs.home.Tie as tie
 
-decode-requires : tie.Need-decode-requires
-decode-requires c κs = search needs
-
-word-of-requires : tie.Need-word-of-requires
-word-of-requires c κs = search needs
-
 returns : tie.Need-returns
 returns c = homed _ (omega arith) (c .before .before .before .decode .ensures) (c .before .if1 .taken) (c .word-of .ensures)
 
@@ -19,4 +13,4 @@ returns-2 : tie.Need-returns-2
 returns-2 c = simp (ne-eqb _ _ (c .if1 .left), ← (c .before .before .decode .ensures))
 
 pub home-spec : {M : Type 1} → statement M
-home-spec = tie.close (tie.spec decode-requires word-of-requires returns returns-2)
+home-spec = tie.close (tie.spec (search needs) (search needs) returns returns-2)

@@ -5,24 +5,6 @@ use Rattle.imm.specs.Closed.{least-is}
 use Rattle.imm.proofs.is_least.Statement.{statement}
 use Rattle.imm.proofs.is_least.Tie as tie
 
-bits-requires : tie.Need-bits-requires
-bits-requires c κs = search needs
-
-bits-requires-2 : tie.Need-bits-requires-2
-bits-requires-2 c κs = search needs
-
-is-turned-requires : tie.Need-is-turned-requires
-is-turned-requires c κs = search needs
-
-is-turned-requires-2 : tie.Need-is-turned-requires-2
-is-turned-requires-2 c κs = search needs
-
-is-turned-requires-3 : tie.Need-is-turned-requires-3
-is-turned-requires-3 c κs = search needs
-
-is-turned-requires-4 : tie.Need-is-turned-requires-4
-is-turned-requires-4 c κs = search needs
-
 returns : tie.Need-returns
 returns c = simp (← (least-is (c .before .before .before .args .imm12) (c .before .before .before .pre)), c .match .keys1, ← (c .before .bits2 .ensures), ← (c .before .before .bits .ensures))
 
@@ -71,16 +53,5 @@ returns-5 c =
 
 pub is-least-spec : {M : Type 1} → statement M
 is-least-spec =
-    tie.close
-    (tie.spec
-    bits-requires
-    bits-requires-2
-    is-turned-requires
-    is-turned-requires-2
-    is-turned-requires-3
-    is-turned-requires-4
-    returns
-    returns-2
-    returns-3
-    returns-4
-    returns-5)
+    tie.close (tie.spec (search needs) (search needs) (search needs) (search needs) (search needs)
+    (search needs) returns returns-2 returns-3 returns-4 returns-5)

@@ -17,16 +17,10 @@ inside c =
 put-line-requires : tie.Need-put-line-requires
 put-line-requires c κs = omega (arith, line-fits (c .before .before .before .args .addr) (c .before .before .before .args .word))
 
-same-length : tie.Need-same-length
-same-length c = search needs
-
 returns : tie.Need-returns
 returns c =
     let start = c .before .before .before .before .before .before in
     fits (omega (arith, line-fits (start .args .addr) (start .args .word))) (c .before .before .put-line .ensures)
-
-slice-aggregate-put-line : tie.Need-slice-aggregate-put-line
-slice-aggregate-put-line c = search needs
 
 put-line-requires-2 : tie.Need-put-line-requires-2
 put-line-requires-2 c κs = omega (arith, line-fits (c .before .before .before .args .addr) (c .before .before .before .args .word))
@@ -37,12 +31,6 @@ array-share-prefix-whole c = omega (arith, inside (c .before .before))
 slice-aggregate-put-whole : tie.Need-slice-aggregate-put-whole
 slice-aggregate-put-whole c = simp length-take (omega (arith, inside (c .before .before .before)))
 
-put-whole-requires : tie.Need-put-whole-requires
-put-whole-requires c κs = search needs
-
-same-length-2 : tie.Need-same-length-2
-same-length-2 c = search needs
-
 returns-2 : tie.Need-returns-2
 returns-2 c =
     let whole = front (c .before .before .before .before .before .before .put-line2 .ensures) in
@@ -50,15 +38,6 @@ returns-2 c =
 
 pub line-spec : {M : Type 1} → statement M
 line-spec =
-    tie.close
-    (tie.spec
-    put-line-requires
-    same-length
-    returns
-    slice-aggregate-put-line
-    put-line-requires-2
-    array-share-prefix-whole
-    slice-aggregate-put-whole
-    put-whole-requires
-    same-length-2
-    returns-2)
+    tie.close (tie.spec put-line-requires (λ c. search needs) returns (search needs)
+    put-line-requires-2 array-share-prefix-whole slice-aggregate-put-whole (search needs)
+    (λ c. search needs) returns-2)

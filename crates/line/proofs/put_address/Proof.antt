@@ -5,17 +5,11 @@ use Rattle.text.proofs.Digits.{hex-low}
 use Rattle.line.proofs.put_address.Statement.{statement}
 use Rattle.line.proofs.put_address.Tie as tie
 
-cast-put-hex : tie.Need-cast-put-hex
-cast-put-hex c = search needs
-
 put-hex-requires : tie.Need-put-hex-requires
 put-hex-requires c κs = (omega arith, rw (hex-low 8 (c .before .before .args .addr)) (c .before .before .pre))
-
-same-length : tie.Need-same-length
-same-length c = search needs
 
 returns : tie.Need-returns
 returns c = rw (hex-low 8 (c .before .before .before .before .before .args .addr)) at (c .before .before .put-hex .ensures)
 
 pub put-address-spec : {M : Type 1} → statement M
-put-address-spec = tie.close (tie.spec cast-put-hex put-hex-requires same-length returns)
+put-address-spec = tie.close (tie.spec (search needs) put-hex-requires (λ c. search needs) returns)

@@ -21,25 +21,13 @@ put-insn-requires c κs = rw (named (c .before)) at (c .before .before .before .
 put-refused-requires : tie.Need-put-refused-requires
 put-refused-requires c κs = rw (refused (c .before)) at (c .before .before .before .before .before .pre)
 
-same-length : tie.Need-same-length
-same-length c = search needs
-
 returns : tie.Need-returns
 returns c = rw (named (c .before .before .before .before)) (c .before .before .put-insn .ensures)
-
-same-length-2 : tie.Need-same-length-2
-same-length-2 c = search needs
 
 returns-2 : tie.Need-returns-2
 returns-2 c = rw (refused (c .before .before .before .before)) (c .before .before .put-refused .ensures)
 
 pub put-answer-spec : {M : Type 1} → statement M
 put-answer-spec =
-    tie.close
-    (tie.spec
-    put-insn-requires
-    put-refused-requires
-    same-length
-    returns
-    same-length-2
-    returns-2)
+    tie.close (tie.spec put-insn-requires put-refused-requires (λ c. search needs) returns
+    (λ c. search needs) returns-2)

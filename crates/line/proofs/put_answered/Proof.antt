@@ -31,9 +31,6 @@ put-byte-requires-3 : tie.Need-put-byte-requires-3
 unfolding lineText
 put-byte-requires-3 c κs = omega (arith, simp length-append at (c .before .before .before .before .before .before .before .before .before .before .before .before .before .before .before .before .before .before .before .before .before .before .pre))
 
-same-length : tie.Need-same-length
-same-length c = search needs
-
 returns : tie.Need-returns
 unfolding lineText
 returns c =
@@ -52,13 +49,5 @@ returns c =
 
 pub put-answered-spec : {M : Type 1} → statement M
 put-answered-spec =
-    tie.close
-    (tie.spec
-    put-address-requires
-    put-byte-requires
-    put-hex-requires
-    put-byte-requires-2
-    put-answer-requires
-    put-byte-requires-3
-    same-length
-    returns)
+    tie.close (tie.spec put-address-requires put-byte-requires put-hex-requires put-byte-requires-2
+    put-answer-requires put-byte-requires-3 (λ c. search needs) returns)

@@ -23,9 +23,6 @@ put-flow-requires : tie.Need-put-flow-requires
 unfolding insnText
 put-flow-requires c κs = omega (arith, simp length-append at (c .before .before .before .before .before .before .before .before .before .before .before .before .before .before .before .before .pre))
 
-same-length : tie.Need-same-length
-same-length c = search needs
-
 returns : tie.Need-returns
 unfolding insnText
 returns c =
@@ -37,11 +34,5 @@ returns c =
 
 pub put-insn-spec : {M : Type 1} → statement M
 put-insn-spec =
-    tie.close
-    (tie.spec
-    put-name-requires
-    put-places-requires
-    put-byte-requires
-    put-flow-requires
-    same-length
-    returns)
+    tie.close (tie.spec put-name-requires put-places-requires put-byte-requires put-flow-requires
+    (λ c. search needs) returns)

@@ -15,9 +15,6 @@ put-suffix-requires : tie.Need-put-suffix-requires
 unfolding nameOf
 put-suffix-requires c κs = omega (arith, simp length-append at (c .before .before .before .before .before .before .pre))
 
-same-length : tie.Need-same-length
-same-length c = search needs
-
 returns : tie.Need-returns
 unfolding nameOf
 returns c =
@@ -26,4 +23,5 @@ returns c =
     first .put-root .ensures then second .put-suffix .ensures
 
 pub put-name-spec : {M : Type 1} → statement M
-put-name-spec = tie.close (tie.spec put-root-requires put-suffix-requires same-length returns)
+put-name-spec =
+    tie.close (tie.spec put-root-requires put-suffix-requires (λ c. search needs) returns)

@@ -7,9 +7,6 @@ use Rattle.spelling.specs.Line.{refusedText}
 use Rattle.line.proofs.put_refused.Statement.{statement}
 use Rattle.line.proofs.put_refused.Tie as tie
 
-slice-aggregate-put : tie.Need-slice-aggregate-put
-slice-aggregate-put c = search needs
-
 put-requires : tie.Need-put-requires
 unfolding refusedText
 put-requires c κs = omega (arith, simp length-append at (c .before .before .before .pre))
@@ -17,9 +14,6 @@ put-requires c κs = omega (arith, simp length-append at (c .before .before .bef
 put-decimal-requires : tie.Need-put-decimal-requires
 unfolding refusedText
 put-decimal-requires c κs = omega (arith, simp length-append at (c .before .before .before .before .before .before .before .pre))
-
-same-length : tie.Need-same-length
-same-length c = search needs
 
 returns : tie.Need-returns
 unfolding refusedText
@@ -30,4 +24,5 @@ returns c =
 
 pub put-refused-spec : {M : Type 1} → statement M
 put-refused-spec =
-    tie.close (tie.spec slice-aggregate-put put-requires put-decimal-requires same-length returns)
+    tie.close (tie.spec (search needs) put-requires put-decimal-requires (λ c. search needs)
+    returns)

@@ -5,9 +5,6 @@ use borrow.Author.Needs.{needs}
 use Rattle.listed.proofs.add_next.Statement.{statement}
 use Rattle.listed.proofs.add_next.Tie as tie
 
-slice-aggregate-put-next : tie.Need-slice-aggregate-put-next
-slice-aggregate-put-next c = search needs
-
 put-next-requires : tie.Need-put-next-requires
 put-next-requires c κs =
     let start = c .before in
@@ -24,4 +21,4 @@ returns c =
     (omega (arith, put .0 .ends), put .1)
 
 pub add-next-spec : {M : Type 1} → statement M
-add-next-spec = tie.close (tie.spec slice-aggregate-put-next put-next-requires add-t9 returns)
+add-next-spec = tie.close (tie.spec (search needs) put-next-requires add-t9 returns)

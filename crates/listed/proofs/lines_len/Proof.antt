@@ -26,18 +26,12 @@ loop-holds c = (refl, refl)
 read-requires : tie.Need-read-requires Inv-loop μ-loop
 read-requires c κs = c .before .before .pre
 
-enum-known-here : tie.Need-enum-known-here Inv-loop μ-loop
-enum-known-here c = search needs
-
 add-next-requires : tie.Need-add-next-requires Inv-loop μ-loop
 add-next-requires c κs =
     let now = c .before .before .before .before .loop in
     let found = c .before .before .before .read .ensures in
     let here = c .before .here .given .1 in
     (omega (arith, now .inv .1, named-small _ _ found here tt), omega (arith, now .inv .0, lines-small _ _ found here tt))
-
-enum-told : tie.Need-enum-told Inv-loop μ-loop
-enum-told c = search needs
 
 returns : tie.Need-returns Inv-loop μ-loop
 returns c =
@@ -64,15 +58,5 @@ loop-again c =
 
 pub lines-len-spec : {M : Type 1} → statement M
 lines-len-spec =
-    tie.close
-    (tie.spec
-    Inv-loop
-    μ-loop
-    loop-holds
-    read-requires
-    enum-known-here
-    add-next-requires
-    enum-told
-    returns
-    loop-less
-    loop-again)
+    tie.close (tie.spec Inv-loop μ-loop loop-holds read-requires (search needs) add-next-requires
+    (search needs) returns loop-less loop-again)

@@ -27,19 +27,10 @@ sum c =
       c .before .before .put-closing .ensures .ends,
     )
 
-slice-aggregate-put-header : tie.Need-slice-aggregate-put-header
-slice-aggregate-put-header c = search needs
-
 put-header-requires : tie.Need-put-header-requires
 put-header-requires c κs =
     let start = c .before .before in
     rw (start .pre) (omega (arith, header-fits (start .args .section .now)))
-
-lines-len-requires : tie.Need-lines-len-requires
-lines-len-requires c κs = search needs
-
-slice-aggregate-put-closing : tie.Need-slice-aggregate-put-closing
-slice-aggregate-put-closing c = search needs
 
 put-closing-requires : tie.Need-put-closing-requires
 put-closing-requires c κs =
@@ -59,13 +50,5 @@ returns c = sum c
 
 pub listed-len-spec : {M : Type 1} → statement M
 listed-len-spec =
-    tie.close
-    (tie.spec
-    slice-aggregate-put-header
-    put-header-requires
-    lines-len-requires
-    slice-aggregate-put-closing
-    put-closing-requires
-    add-result
-    add-result-2
-    returns)
+    tie.close (tie.spec (search needs) put-header-requires (λ c κs. search needs) (search needs)
+    put-closing-requires add-result add-result-2 returns)

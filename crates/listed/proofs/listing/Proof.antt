@@ -9,21 +9,12 @@ use borrow.Author.Needs.{needs}
 use Rattle.listed.proofs.listing.Statement.{statement}
 use Rattle.listed.proofs.listing.Tie as tie
 
-open-requires : tie.Need-open-requires
-open-requires c κs = search needs
-
-has-room-requires : tie.Need-has-room-requires
-has-room-requires c κs = search needs
-
 put-listing-requires : tie.Need-put-listing-requires
 put-listing-requires c κs =
     let asked = c .before .before in
     let start = asked .before .before .before .before in
     let room = leb-true (length (listingOf (start .args .section .now))) (length (start .args .out .now)) (sym (asked .has-room .ensures) ∙ c .before .if1 .taken) in
     (asked .before .«open» .ensures, omega (arith, room))
-
-same-length : tie.Need-same-length
-same-length c = search needs
 
 returns : tie.Need-returns
 returns c =
@@ -35,5 +26,5 @@ returns-2 c = no-room _ (leb-false _ _ (sym (c .before .has-room .ensures) ∙ c
 
 pub listing-spec : {M : Type 1} → statement M
 listing-spec =
-    tie.close
-    (tie.spec open-requires has-room-requires put-listing-requires same-length returns returns-2)
+    tie.close (tie.spec (λ c κs. search needs) (λ c κs. search needs) put-listing-requires (λ c. search needs)
+    returns returns-2)

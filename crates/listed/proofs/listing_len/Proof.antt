@@ -6,12 +6,6 @@ use borrow.Author.Needs.{needs}
 use Rattle.listed.proofs.listing_len.Statement.{statement}
 use Rattle.listed.proofs.listing_len.Tie as tie
 
-listed-len-requires : tie.Need-listed-len-requires
-listed-len-requires c κs = search needs
-
-slice-aggregate-put-refusal : tie.Need-slice-aggregate-put-refusal
-slice-aggregate-put-refusal c = search needs
-
 put-refusal-requires : tie.Need-put-refusal-requires
 put-refusal-requires c κs =
     let start = c .before .before .before .before in
@@ -29,10 +23,4 @@ returns-2 c =
 
 pub listing-len-spec : {M : Type 1} → statement M
 listing-len-spec =
-    tie.close
-    (tie.spec
-    listed-len-requires
-    slice-aggregate-put-refusal
-    put-refusal-requires
-    returns
-    returns-2)
+    tie.close (tie.spec (λ c κs. search needs) (search needs) put-refusal-requires returns returns-2)

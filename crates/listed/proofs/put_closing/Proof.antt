@@ -11,9 +11,6 @@ put-decimal-requires : tie.Need-put-decimal-requires
 unfolding closingOf
 put-decimal-requires c κs = omega (arith, simp length-append at (c .before .before .pre .1))
 
-slice-aggregate-put : tie.Need-slice-aggregate-put
-slice-aggregate-put c = search needs
-
 put-requires : tie.Need-put-requires
 unfolding closingOf
 put-requires c κs = omega (arith, simp length-append at (c .before .before .before .before .before .before .before .pre .1))
@@ -22,32 +19,17 @@ put-decimal-requires-2 : tie.Need-put-decimal-requires-2
 unfolding closingOf
 put-decimal-requires-2 c κs = omega (arith, simp length-append at (c .before .before .before .before .before .before .before .before .before .before .before .pre .1))
 
-slice-aggregate-put-2 : tie.Need-slice-aggregate-put-2
-slice-aggregate-put-2 c = search needs
-
 put-requires-2 : tie.Need-put-requires-2
 unfolding closingOf
 put-requires-2 c κs = omega (arith, simp length-append at (c .before .before .before .before .before .before .before .before .before .before .before .before .before .before .before .before .pre .1))
-
-sub-put-decimal : tie.Need-sub-put-decimal
-sub-put-decimal c = search needs
-
-cast-put-decimal : tie.Need-cast-put-decimal
-cast-put-decimal c = search needs
 
 put-decimal-requires-3 : tie.Need-put-decimal-requires-3
 unfolding closingOf
 put-decimal-requires-3 c κs = omega (arith, simp length-append at (c .before .before .before .before .before .before .before .before .before .before .before .before .before .before .before .before .before .before .before .before .pre .1))
 
-slice-aggregate-put-3 : tie.Need-slice-aggregate-put-3
-slice-aggregate-put-3 c = search needs
-
 put-requires-3 : tie.Need-put-requires-3
 unfolding closingOf
 put-requires-3 c κs = omega (arith, simp length-append at (c .before .before .before .before .before .before .before .before .before .before .before .before .before .before .before .before .before .before .before .before .before .before .before .before .before .pre .1))
-
-same-length : tie.Need-same-length
-same-length c = search needs
 
 returns : tie.Need-returns
 unfolding closingOf
@@ -67,18 +49,6 @@ returns c =
 
 pub put-closing-spec : {M : Type 1} → statement M
 put-closing-spec =
-    tie.close
-    (tie.spec
-    put-decimal-requires
-    slice-aggregate-put
-    put-requires
-    put-decimal-requires-2
-    slice-aggregate-put-2
-    put-requires-2
-    sub-put-decimal
-    cast-put-decimal
-    put-decimal-requires-3
-    slice-aggregate-put-3
-    put-requires-3
-    same-length
-    returns)
+    tie.close (tie.spec put-decimal-requires (search needs) put-requires put-decimal-requires-2
+    (search needs) put-requires-2 (search needs) (search needs) put-decimal-requires-3
+    (search needs) put-requires-3 (λ c. search needs) returns)

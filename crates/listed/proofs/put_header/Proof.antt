@@ -7,15 +7,9 @@ use borrow.Author.Needs.{needs}
 use Rattle.listed.proofs.put_header.Statement.{statement}
 use Rattle.listed.proofs.put_header.Tie as tie
 
-slice-aggregate-put : tie.Need-slice-aggregate-put
-slice-aggregate-put c = search needs
-
 put-requires : tie.Need-put-requires
 unfolding headerOf
 put-requires c κs = omega (arith, simp length-append at (c .before .before .before .pre))
-
-cast-put-decimal : tie.Need-cast-put-decimal
-cast-put-decimal c = search needs
 
 put-decimal-requires : tie.Need-put-decimal-requires
 unfolding headerOf
@@ -33,9 +27,6 @@ put-byte-requires-2 : tie.Need-put-byte-requires-2
 unfolding headerOf
 put-byte-requires-2 c κs = omega (arith, simp length-append at (c .before .before .before .before .before .before .before .before .before .before .before .before .before .before .before .before .before .before .before .before .pre))
 
-cast-put-decimal-2 : tie.Need-cast-put-decimal-2
-cast-put-decimal-2 c = search needs
-
 put-decimal-requires-2 : tie.Need-put-decimal-requires-2
 unfolding headerOf
 put-decimal-requires-2 c κs = omega (arith, simp length-append at (c .before .before .before .before .before .before .before .before .before .before .before .before .before .before .before .before .before .before .before .before .before .before .before .before .before .pre))
@@ -43,9 +34,6 @@ put-decimal-requires-2 c κs = omega (arith, simp length-append at (c .before .b
 put-byte-requires-3 : tie.Need-put-byte-requires-3
 unfolding headerOf
 put-byte-requires-3 c κs = omega (arith, simp length-append at (c .before .before .before .before .before .before .before .before .before .before .before .before .before .before .before .before .before .before .before .before .before .before .before .before .before .before .before .before .before .pre))
-
-same-length : tie.Need-same-length
-same-length c = search needs
 
 returns : tie.Need-returns
 unfolding headerOf
@@ -67,17 +55,6 @@ returns c =
 
 pub put-header-spec : {M : Type 1} → statement M
 put-header-spec =
-    tie.close
-    (tie.spec
-    slice-aggregate-put
-    put-requires
-    cast-put-decimal
-    put-decimal-requires
-    put-byte-requires
-    put-hex-requires
-    put-byte-requires-2
-    cast-put-decimal-2
-    put-decimal-requires-2
-    put-byte-requires-3
-    same-length
-    returns)
+    tie.close (tie.spec (search needs) put-requires (search needs) put-decimal-requires
+    put-byte-requires put-hex-requires put-byte-requires-2 (search needs) put-decimal-requires-2
+    put-byte-requires-3 (λ c. search needs) returns)

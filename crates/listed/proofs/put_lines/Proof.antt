@@ -28,9 +28,6 @@ loop-holds c = (refl, none _ _, refl)
 read-requires : tie.Need-read-requires Inv-loop μ-loop
 read-requires c κs = c .before .before .before .pre .0
 
-enum-known-here : tie.Need-enum-known-here Inv-loop μ-loop
-enum-known-here c = search needs
-
 put-next-requires : tie.Need-put-next-requires Inv-loop μ-loop
 put-next-requires c κs =
     let start = c .before .before .before .before .before .before .before .before in
@@ -41,9 +38,6 @@ put-next-requires c κs =
       omega (arith, now .inv .2, named-small section (now .place) found here tt),
       omega (arith, start .pre .1, now .inv .0, now .inv .1 .ends, next-fits section (now .place) found here tt),
     )
-
-enum-told : tie.Need-enum-told Inv-loop μ-loop
-enum-told c = search needs
 
 same-length : tie.Need-same-length Inv-loop μ-loop
 same-length c = c .before .before .before .loop .inv .0
@@ -74,16 +68,5 @@ loop-again c =
 
 pub put-lines-spec : {M : Type 1} → statement M
 put-lines-spec =
-    tie.close
-    (tie.spec
-    Inv-loop
-    μ-loop
-    loop-holds
-    read-requires
-    enum-known-here
-    put-next-requires
-    enum-told
-    same-length
-    returns
-    loop-less
-    loop-again)
+    tie.close (tie.spec Inv-loop μ-loop loop-holds read-requires (search needs) put-next-requires
+    (search needs) same-length returns loop-less loop-again)

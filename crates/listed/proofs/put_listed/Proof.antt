@@ -43,9 +43,6 @@ put-closing-requires c κs =
       ),
     )
 
-same-length : tie.Need-same-length
-same-length c = search needs
-
 returns : tie.Need-returns
 returns c =
     let start = c .before .before .before .before .before .before .before .before .before .before .before .before .before .before in
@@ -55,5 +52,5 @@ returns c =
 
 pub put-listed-spec : {M : Type 1} → statement M
 put-listed-spec =
-    tie.close
-    (tie.spec put-header-requires put-lines-requires put-closing-requires same-length returns)
+    tie.close (tie.spec put-header-requires put-lines-requires put-closing-requires
+    (λ c. search needs) returns)

@@ -14,16 +14,10 @@ put-refusal-requires c κs =
     let start = c .before .before .before .before .before in
     rw (refuses (start .args .section .now) (start .pre .0) (c .before .if1 .left)) at (start .pre .1)
 
-same-length : tie.Need-same-length
-same-length c = search needs
-
 returns : tie.Need-returns
 returns c =
     let start = c .before .before .before .before .before .before .before .before in
     rw (accepts (start .args .section .now) (start .pre .0) (c .before .before .before .before .if1 .taken)) (c .before .before .put-listed .ensures)
-
-same-length-2 : tie.Need-same-length-2
-same-length-2 c = search needs
 
 returns-2 : tie.Need-returns-2
 returns-2 c =
@@ -32,5 +26,5 @@ returns-2 c =
 
 pub put-listing-spec : {M : Type 1} → statement M
 put-listing-spec =
-    tie.close
-    (tie.spec put-listed-requires put-refusal-requires same-length returns same-length-2 returns-2)
+    tie.close (tie.spec put-listed-requires put-refusal-requires (λ c. search needs) returns
+    (λ c. search needs) returns-2)

@@ -10,22 +10,13 @@ use Rattle.listed.proofs.Grow.{at-most-one}
 use Rattle.listed.proofs.put_next.Statement.{statement}
 use Rattle.listed.proofs.put_next.Tie as tie
 
-decode-requires : tie.Need-decode-requires
-decode-requires c κs = search needs
-
 put-answered-requires : tie.Need-put-answered-requires
 put-answered-requires c κs = rw (c .before .decode .ensures) (c .before .before .before .pre .1)
-
-one-named-requires : tie.Need-one-named-requires
-one-named-requires c κs = search needs
 
 add-t11 : tie.Need-add-t11
 add-t11 c =
     let start = c .before .before .before .before .before .before .before .before in
     record { fits = omega (arith, start .pre .0, c .before .one-named .ensures, at-most-one (eqb (c .before .before .before .before .before .before .decode .result .refusal) 0)) }
-
-same-length : tie.Need-same-length
-same-length c = search needs
 
 returns : tie.Need-returns
 returns c =
@@ -37,5 +28,5 @@ returns c =
 
 pub put-next-spec : {M : Type 1} → statement M
 put-next-spec =
-    tie.close
-    (tie.spec decode-requires put-answered-requires one-named-requires add-t11 same-length returns)
+    tie.close (tie.spec (λ c κs. search needs) put-answered-requires (λ c κs. search needs) add-t11
+    (λ c. search needs) returns)

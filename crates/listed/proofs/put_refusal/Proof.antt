@@ -12,11 +12,9 @@ put-refused-requires c κs = omega (arith, simp length-append at (c .before .bef
 put-byte-requires : tie.Need-put-byte-requires
 put-byte-requires c κs = omega (arith, simp length-append at (c .before .before .before .before .before .before .pre))
 
-same-length : tie.Need-same-length
-same-length c = search needs
-
 returns : tie.Need-returns
 returns c = c .before .before .before .before .before .before .put-refused .ensures then c .before .before .put-byte .ensures
 
 pub put-refusal-spec : {M : Type 1} → statement M
-put-refusal-spec = tie.close (tie.spec put-refused-requires put-byte-requires same-length returns)
+put-refusal-spec =
+    tie.close (tie.spec put-refused-requires put-byte-requires (λ c. search needs) returns)

@@ -20,9 +20,6 @@ loop-holds c = tt
 list-file-requires : tie.Need-list-file-requires Inv-loop μ-loop
 list-file-requires c κs = tt
 
-add-n : tie.Need-add-n Inv-loop μ-loop
-add-n c = search needs
-
 loop-less : tie.Need-loop-less Inv-loop μ-loop
 loop-less c = omega arith
 
@@ -34,14 +31,5 @@ returns c = tt
 
 pub main-spec : {M : Type 1} → statement M
 main-spec =
-    tie.close
-    (tie.spec
-    Inv-loop
-    μ-loop
-    arg-count-requires
-    loop-holds
-    list-file-requires
-    add-n
-    loop-less
-    loop-again
-    returns)
+    tie.close (tie.spec Inv-loop μ-loop arg-count-requires loop-holds list-file-requires
+    (search needs) loop-less loop-again returns)

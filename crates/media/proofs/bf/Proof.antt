@@ -6,26 +6,8 @@ use Rattle.word.specs.Field.{small}
 use Rattle.media.proofs.bf.Statement.{statement}
 use Rattle.media.proofs.bf.Tie as tie
 
-bits-requires : tie.Need-bits-requires
-bits-requires c κs = search needs
-
-bits-requires-2 : tie.Need-bits-requires-2
-bits-requires-2 c κs = search needs
-
-bits-requires-3 : tie.Need-bits-requires-3
-bits-requires-3 c κs = search needs
-
-refuse-requires : tie.Need-refuse-requires
-refuse-requires c κs = search needs
-
 add-bf-width : tie.Need-add-bf-width
 add-bf-width c = record { fits = rw (c .before .before .before .bits2 .ensures) (omega (arith, small (c .before .before .before .before .before .args .w) 16 5)) }
-
-bf-width-requires : tie.Need-bf-width-requires
-bf-width-requires c κs = search needs
-
-refuse-requires-2 : tie.Need-refuse-requires-2
-refuse-requires-2 c κs = search needs
 
 returns : tie.Need-returns
 returns c =
@@ -61,15 +43,5 @@ returns-3 c =
 
 pub bf-spec : {M : Type 1} → statement M
 bf-spec =
-    tie.close
-    (tie.spec
-    bits-requires
-    bits-requires-2
-    bits-requires-3
-    refuse-requires
-    add-bf-width
-    bf-width-requires
-    refuse-requires-2
-    returns
-    returns-2
-    returns-3)
+    tie.close (tie.spec (search needs) (search needs) (search needs) (search needs) add-bf-width
+    (search needs) (search needs) returns returns-2 returns-3)

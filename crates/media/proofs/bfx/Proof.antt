@@ -6,44 +6,8 @@ use Rattle.word.specs.Field.{small}
 use Rattle.media.proofs.bfx.Statement.{statement}
 use Rattle.media.proofs.bfx.Tie as tie
 
-bits-requires : tie.Need-bits-requires
-bits-requires c κs = search needs
-
-at-requires : tie.Need-at-requires
-at-requires c κs = search needs
-
-op-at-requires : tie.Need-op-at-requires
-op-at-requires c κs = search needs
-
-with-requires : tie.Need-with-requires
-with-requires c κs = search needs
-
-op-at-requires-2 : tie.Need-op-at-requires-2
-op-at-requires-2 c κs = search needs
-
-with-requires-2 : tie.Need-with-requires-2
-with-requires-2 c κs = search needs
-
-bits-requires-2 : tie.Need-bits-requires-2
-bits-requires-2 c κs = search needs
-
-with-requires-3 : tie.Need-with-requires-3
-with-requires-3 c κs = search needs
-
-bits-requires-3 : tie.Need-bits-requires-3
-bits-requires-3 c κs = search needs
-
 add-t18 : tie.Need-add-t18
 add-t18 c = record { fits = rw (c .bits3 .ensures) (omega (arith, small (c .before .before .before .before .before .before .before .before .before .before .args .w) 16 5)) }
-
-with-requires-4 : tie.Need-with-requires-4
-with-requires-4 c κs = search needs
-
-accept-requires : tie.Need-accept-requires
-accept-requires c κs = search needs
-
-refuse-requires : tie.Need-refuse-requires
-refuse-requires c κs = search needs
 
 returns : tie.Need-returns
 returns c =
@@ -67,20 +31,6 @@ returns-2 c = simp (c .refuse .ensures, ne-eqb _ _ (c .before .if1 .left), ← (
 
 pub bfx-spec : {M : Type 1} → statement M
 bfx-spec =
-    tie.close
-    (tie.spec
-    bits-requires
-    at-requires
-    op-at-requires
-    with-requires
-    op-at-requires-2
-    with-requires-2
-    bits-requires-2
-    with-requires-3
-    bits-requires-3
-    add-t18
-    with-requires-4
-    accept-requires
-    refuse-requires
-    returns
-    returns-2)
+    tie.close (tie.spec (search needs) (search needs) (search needs) (search needs) (search needs)
+    (search needs) (search needs) (search needs) (search needs) add-t18 (search needs)
+    (search needs) (search needs) returns returns-2)

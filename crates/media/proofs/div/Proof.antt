@@ -4,15 +4,6 @@ use borrow.Author.Tests.{ne-eqb}
 use Rattle.media.proofs.div.Statement.{statement}
 use Rattle.media.proofs.div.Tie as tie
 
-bits-requires : tie.Need-bits-requires
-bits-requires c κs = search needs
-
-three-requires : tie.Need-three-requires
-three-requires c κs = search needs
-
-refuse-requires : tie.Need-refuse-requires
-refuse-requires c κs = search needs
-
 returns : tie.Need-returns
 returns c = simp (c .three .ensures, c .before .if1 .taken, ← (c .before .before .bits .ensures))
 
@@ -20,4 +11,4 @@ returns-2 : tie.Need-returns-2
 returns-2 c = simp (c .refuse .ensures, ne-eqb _ _ (c .before .if1 .left), ← (c .before .before .bits .ensures))
 
 pub div-spec : {M : Type 1} → statement M
-div-spec = tie.close (tie.spec bits-requires three-requires refuse-requires returns returns-2)
+div-spec = tie.close (tie.spec (search needs) (search needs) (search needs) returns returns-2)

@@ -4,21 +4,6 @@ use borrow.Author.Tests.{ne-eqb}
 use Rattle.media.proofs.extend.Statement.{statement}
 use Rattle.media.proofs.extend.Tie as tie
 
-bits-requires : tie.Need-bits-requires
-bits-requires c κs = search needs
-
-bits-requires-2 : tie.Need-bits-requires-2
-bits-requires-2 c κs = search needs
-
-extend-by-requires : tie.Need-extend-by-requires
-extend-by-requires c κs = search needs
-
-refuse-requires : tie.Need-refuse-requires
-refuse-requires c κs = search needs
-
-refuse-requires-2 : tie.Need-refuse-requires-2
-refuse-requires-2 c κs = search needs
-
 returns : tie.Need-returns
 returns c =
     simp (
@@ -50,13 +35,5 @@ returns-3 c =
 
 pub extend-spec : {M : Type 1} → statement M
 extend-spec =
-    tie.close
-    (tie.spec
-    bits-requires
-    bits-requires-2
-    extend-by-requires
-    refuse-requires
-    refuse-requires-2
-    returns
-    returns-2
-    returns-3)
+    tie.close (tie.spec (search needs) (search needs) (search needs) (search needs) (search needs)
+    returns returns-2 returns-3)

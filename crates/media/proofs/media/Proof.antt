@@ -4,75 +4,6 @@ use borrow.Author.Tests.{ne-eqb}
 use Rattle.media.proofs.media.Statement.{statement}
 use Rattle.media.proofs.media.Tie as tie
 
-bits-requires : tie.Need-bits-requires
-bits-requires c κs = search needs
-
-bits-requires-2 : tie.Need-bits-requires-2
-bits-requires-2 c κs = search needs
-
-bits-requires-3 : tie.Need-bits-requires-3
-bits-requires-3 c κs = search needs
-
-udf-requires : tie.Need-udf-requires
-udf-requires c κs = search needs
-
-bfx-requires : tie.Need-bfx-requires
-bfx-requires c κs = search needs
-
-bfx-requires-2 : tie.Need-bfx-requires-2
-bfx-requires-2 c κs = search needs
-
-bfx-requires-3 : tie.Need-bfx-requires-3
-bfx-requires-3 c κs = search needs
-
-bfx-requires-4 : tie.Need-bfx-requires-4
-bfx-requires-4 c κs = search needs
-
-bf-requires : tie.Need-bf-requires
-bf-requires c κs = search needs
-
-bf-requires-2 : tie.Need-bf-requires-2
-bf-requires-2 c κs = search needs
-
-div-requires : tie.Need-div-requires
-div-requires c κs = search needs
-
-div-requires-2 : tie.Need-div-requires-2
-div-requires-2 c κs = search needs
-
-ssat-requires : tie.Need-ssat-requires
-ssat-requires c κs = search needs
-
-extend-requires : tie.Need-extend-requires
-extend-requires c κs = search needs
-
-ssat-requires-2 : tie.Need-ssat-requires-2
-ssat-requires-2 c κs = search needs
-
-rev-or-extend-requires : tie.Need-rev-or-extend-requires
-rev-or-extend-requires c κs = search needs
-
-usat-requires : tie.Need-usat-requires
-usat-requires c κs = search needs
-
-extend-requires-2 : tie.Need-extend-requires-2
-extend-requires-2 c κs = search needs
-
-usat-requires-2 : tie.Need-usat-requires-2
-usat-requires-2 c κs = search needs
-
-rev-or-extend-requires-2 : tie.Need-rev-or-extend-requires-2
-rev-or-extend-requires-2 c κs = search needs
-
-extend-requires-3 : tie.Need-extend-requires-3
-extend-requires-3 c κs = search needs
-
-extend-requires-4 : tie.Need-extend-requires-4
-extend-requires-4 c κs = search needs
-
-refuse-requires : tie.Need-refuse-requires
-refuse-requires c κs = search needs
-
 returns : tie.Need-returns
 returns c =
     simp (
@@ -298,48 +229,10 @@ returns-20 c =
 
 pub media-spec : {M : Type 1} → statement M
 media-spec =
-    tie.close
-    (tie.spec
-    bits-requires
-    bits-requires-2
-    bits-requires-3
-    udf-requires
-    bfx-requires
-    bfx-requires-2
-    bfx-requires-3
-    bfx-requires-4
-    bf-requires
-    bf-requires-2
-    div-requires
-    div-requires-2
-    ssat-requires
-    extend-requires
-    ssat-requires-2
-    rev-or-extend-requires
-    usat-requires
-    extend-requires-2
-    usat-requires-2
-    rev-or-extend-requires-2
-    extend-requires-3
-    extend-requires-4
-    refuse-requires
-    returns
-    returns-2
-    returns-3
-    returns-4
-    returns-5
-    returns-6
-    returns-7
-    returns-8
-    returns-9
-    returns-10
-    returns-11
-    returns-12
-    returns-13
-    returns-14
-    returns-15
-    returns-16
-    returns-17
-    returns-18
-    returns-19
-    returns-20)
+    tie.close (tie.spec (search needs) (search needs) (search needs) (search needs) (search needs)
+    (search needs) (search needs) (search needs) (search needs) (search needs) (search needs)
+    (search needs) (search needs) (search needs) (search needs) (search needs) (search needs)
+    (search needs) (search needs) (search needs) (search needs) (search needs) (search needs)
+    returns returns-2 returns-3 returns-4 returns-5 returns-6 returns-7 returns-8 returns-9
+    returns-10 returns-11 returns-12 returns-13 returns-14 returns-15 returns-16 returns-17
+    returns-18 returns-19 returns-20)

@@ -6,9 +6,6 @@ use Rattle.word.specs.Field.{small}
 use Rattle.media.proofs.rotate.Statement.{statement}
 use Rattle.media.proofs.rotate.Tie as tie
 
-bits-requires : tie.Need-bits-requires
-bits-requires c κs = search needs
-
 mul-t5 : tie.Need-mul-t5
 mul-t5 c = record { fits = rw (c .before .bits .ensures) (omega (arith, small (c .before .before .args .w) 10 2)) }
 
@@ -22,4 +19,4 @@ returns-2 : tie.Need-returns-2
 returns-2 c = simp (ne-eqb _ _ (c .if1 .left), ← (c .before .bits .ensures))
 
 pub rotate-spec : {M : Type 1} → statement M
-rotate-spec = tie.close (tie.spec bits-requires mul-t5 cast-t6 returns returns-2)
+rotate-spec = tie.close (tie.spec (search needs) mul-t5 cast-t6 returns returns-2)

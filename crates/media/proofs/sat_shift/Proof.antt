@@ -6,12 +6,6 @@ use Rattle.word.specs.Field.{small}
 use Rattle.media.proofs.sat_shift.Statement.{statement}
 use Rattle.media.proofs.sat_shift.Tie as tie
 
-bits-requires : tie.Need-bits-requires
-bits-requires c κs = search needs
-
-bit-requires : tie.Need-bit-requires
-bit-requires c κs = search needs
-
 shift-amount-requires : tie.Need-shift-amount-requires
 shift-amount-requires c κs = rw (c .before .before .bits .ensures) (small _ 7 5)
 
@@ -47,12 +41,5 @@ returns-3 c =
 
 pub sat-shift-spec : {M : Type 1} → statement M
 sat-shift-spec =
-    tie.close
-    (tie.spec
-    bits-requires
-    bit-requires
-    shift-amount-requires
-    cast-t11
-    returns
-    returns-2
-    returns-3)
+    tie.close (tie.spec (search needs) (search needs) shift-amount-requires cast-t11 returns
+    returns-2 returns-3)

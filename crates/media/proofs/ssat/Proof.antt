@@ -5,17 +5,11 @@ use Rattle.word.specs.Field.{small}
 use Rattle.media.proofs.ssat.Statement.{statement}
 use Rattle.media.proofs.ssat.Tie as tie
 
-bits-requires : tie.Need-bits-requires
-bits-requires c κs = search needs
-
 add-sat : tie.Need-add-sat
 add-sat c = record { fits = rw (c .bits .ensures) (omega (arith, small (c .before .args .w) 16 5)) }
-
-sat-requires : tie.Need-sat-requires
-sat-requires c κs = search needs
 
 returns : tie.Need-returns
 returns c = simp (c .sat .ensures, ← (c .before .bits .ensures))
 
 pub ssat-spec : {M : Type 1} → statement M
-ssat-spec = tie.close (tie.spec bits-requires add-sat sat-requires returns)
+ssat-spec = tie.close (tie.spec (search needs) add-sat (search needs) returns)

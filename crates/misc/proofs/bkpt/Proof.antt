@@ -4,24 +4,6 @@ use borrow.Author.Tests.{ne-eqb}
 use Rattle.misc.proofs.bkpt.Statement.{statement}
 use Rattle.misc.proofs.bkpt.Tie as tie
 
-bits-requires : tie.Need-bits-requires
-bits-requires c κs = search needs
-
-at-requires : tie.Need-at-requires
-at-requires c κs = search needs
-
-bits-then-requires : tie.Need-bits-then-requires
-bits-then-requires c κs = search needs
-
-with-requires : tie.Need-with-requires
-with-requires c κs = search needs
-
-accept-requires : tie.Need-accept-requires
-accept-requires c κs = search needs
-
-refuse-requires : tie.Need-refuse-requires
-refuse-requires c κs = search needs
-
 returns : tie.Need-returns
 returns c =
     simp (
@@ -38,13 +20,5 @@ returns-2 c = simp (c .refuse .ensures, ne-eqb _ _ (c .before .match .rest .1), 
 
 pub bkpt-spec : {M : Type 1} → statement M
 bkpt-spec =
-    tie.close
-    (tie.spec
-    bits-requires
-    at-requires
-    bits-then-requires
-    with-requires
-    accept-requires
-    refuse-requires
-    returns
-    returns-2)
+    tie.close (tie.spec (search needs) (search needs) (search needs) (search needs) (search needs)
+    (search needs) returns returns-2)

@@ -4,21 +4,6 @@ use borrow.Author.Tests.{ne-eqb}
 use Rattle.misc.proofs.bx_clz.Statement.{statement}
 use Rattle.misc.proofs.bx_clz.Tie as tie
 
-bits-requires : tie.Need-bits-requires
-bits-requires c κs = search needs
-
-return-flow-requires : tie.Need-return-flow-requires
-return-flow-requires c κs = search needs
-
-one-requires : tie.Need-one-requires
-one-requires c κs = search needs
-
-two-requires : tie.Need-two-requires
-two-requires c κs = search needs
-
-refuse-requires : tie.Need-refuse-requires
-refuse-requires c κs = search needs
-
 returns : tie.Need-returns
 returns c =
     simp (
@@ -42,13 +27,5 @@ returns-3 c =
 
 pub bx-clz-spec : {M : Type 1} → statement M
 bx-clz-spec =
-    tie.close
-    (tie.spec
-    bits-requires
-    return-flow-requires
-    one-requires
-    two-requires
-    refuse-requires
-    returns
-    returns-2
-    returns-3)
+    tie.close (tie.spec (search needs) (search needs) (search needs) (search needs) (search needs)
+    returns returns-2 returns-3)

@@ -4,15 +4,6 @@ use borrow.Author.Tests.{ne-eqb}
 use Rattle.misc.proofs.bxj.Statement.{statement}
 use Rattle.misc.proofs.bxj.Tie as tie
 
-bits-requires : tie.Need-bits-requires
-bits-requires c κs = search needs
-
-one-requires : tie.Need-one-requires
-one-requires c κs = search needs
-
-refuse-requires : tie.Need-refuse-requires
-refuse-requires c κs = search needs
-
 returns : tie.Need-returns
 returns c = simp (c .one .ensures, c .before .match .keys1, ← (c .before .before .bits .ensures))
 
@@ -20,4 +11,4 @@ returns-2 : tie.Need-returns-2
 returns-2 c = simp (c .refuse .ensures, ne-eqb _ _ (c .before .match .rest .1), ← (c .before .before .bits .ensures))
 
 pub bxj-spec : {M : Type 1} → statement M
-bxj-spec = tie.close (tie.spec bits-requires one-requires refuse-requires returns returns-2)
+bxj-spec = tie.close (tie.spec (search needs) (search needs) (search needs) returns returns-2)

@@ -4,30 +4,6 @@ use borrow.Author.Tests.{ne-eqb}
 use Rattle.misc.proofs.misc.Statement.{statement}
 use Rattle.misc.proofs.misc.Tie as tie
 
-bits-requires : tie.Need-bits-requires
-bits-requires c κs = search needs
-
-status-requires : tie.Need-status-requires
-status-requires c κs = search needs
-
-bx-clz-requires : tie.Need-bx-clz-requires
-bx-clz-requires c κs = search needs
-
-bxj-requires : tie.Need-bxj-requires
-bxj-requires c κs = search needs
-
-blx-requires : tie.Need-blx-requires
-blx-requires c κs = search needs
-
-saturating-requires : tie.Need-saturating-requires
-saturating-requires c κs = search needs
-
-bkpt-requires : tie.Need-bkpt-requires
-bkpt-requires c κs = search needs
-
-refuse-requires : tie.Need-refuse-requires
-refuse-requires c κs = search needs
-
 returns : tie.Need-returns
 returns c = simp (c .status .ensures, c .before .match .keys1, ← (c .before .before .bits .ensures))
 
@@ -61,20 +37,6 @@ returns-7 c =
 
 pub misc-spec : {M : Type 1} → statement M
 misc-spec =
-    tie.close
-    (tie.spec
-    bits-requires
-    status-requires
-    bx-clz-requires
-    bxj-requires
-    blx-requires
-    saturating-requires
-    bkpt-requires
-    refuse-requires
-    returns
-    returns-2
-    returns-3
-    returns-4
-    returns-5
-    returns-6
-    returns-7)
+    tie.close (tie.spec (search needs) (search needs) (search needs) (search needs) (search needs)
+    (search needs) (search needs) (search needs) returns returns-2 returns-3 returns-4 returns-5
+    returns-6 returns-7)

@@ -4,24 +4,6 @@ use borrow.Author.Tests.{ne-eqb}
 use Rattle.misc.proofs.saturating.Statement.{statement}
 use Rattle.misc.proofs.saturating.Tie as tie
 
-bits-requires : tie.Need-bits-requires
-bits-requires c κs = search needs
-
-three-requires : tie.Need-three-requires
-three-requires c κs = search needs
-
-three-requires-2 : tie.Need-three-requires-2
-three-requires-2 c κs = search needs
-
-three-requires-3 : tie.Need-three-requires-3
-three-requires-3 c κs = search needs
-
-three-requires-4 : tie.Need-three-requires-4
-three-requires-4 c κs = search needs
-
-refuse-requires : tie.Need-refuse-requires
-refuse-requires c κs = search needs
-
 returns : tie.Need-returns
 returns c = simp (c .three .ensures, c .before .match .keys1, ← (c .before .before .bits .ensures))
 
@@ -47,16 +29,5 @@ returns-5 c =
 
 pub saturating-spec : {M : Type 1} → statement M
 saturating-spec =
-    tie.close
-    (tie.spec
-    bits-requires
-    three-requires
-    three-requires-2
-    three-requires-3
-    three-requires-4
-    refuse-requires
-    returns
-    returns-2
-    returns-3
-    returns-4
-    returns-5)
+    tie.close (tie.spec (search needs) (search needs) (search needs) (search needs) (search needs)
+    (search needs) returns returns-2 returns-3 returns-4 returns-5)

@@ -4,21 +4,6 @@ use borrow.Author.Tests.{ne-eqb}
 use Rattle.misc.proofs.status.Statement.{statement}
 use Rattle.misc.proofs.status.Tie as tie
 
-bit-requires : tie.Need-bit-requires
-bit-requires c κs = search needs
-
-bit-requires-2 : tie.Need-bit-requires-2
-bit-requires-2 c κs = search needs
-
-mrs-requires : tie.Need-mrs-requires
-mrs-requires c κs = search needs
-
-msr-requires : tie.Need-msr-requires
-msr-requires c κs = search needs
-
-refuse-requires : tie.Need-refuse-requires
-refuse-requires c κs = search needs
-
 returns : tie.Need-returns
 returns c =
     simp (
@@ -50,13 +35,5 @@ returns-3 c =
 
 pub status-spec : {M : Type 1} → statement M
 status-spec =
-    tie.close
-    (tie.spec
-    bit-requires
-    bit-requires-2
-    mrs-requires
-    msr-requires
-    refuse-requires
-    returns
-    returns-2
-    returns-3)
+    tie.close (tie.spec (search needs) (search needs) (search needs) (search needs) (search needs)
+    returns returns-2 returns-3)

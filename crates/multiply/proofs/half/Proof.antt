@@ -6,9 +6,6 @@ use Rattle.word.specs.Field.{small}
 use Rattle.multiply.proofs.half.Statement.{statement}
 use Rattle.multiply.proofs.half.Tie as tie
 
-bit-requires : tie.Need-bit-requires
-bit-requires c κs = search needs
-
 one-bit : (c : tie.After-bit) → c .bit .result < 2
 one-bit c = rw (c .bit .ensures) (small _ _ 1)
 
@@ -22,4 +19,4 @@ returns : tie.Need-returns
 returns c = simp (c .bit .ensures)
 
 pub half-spec : {M : Type 1} → statement M
-half-spec = tie.close (tie.spec bit-requires cast-result add-result returns)
+half-spec = tie.close (tie.spec (search needs) cast-result add-result returns)

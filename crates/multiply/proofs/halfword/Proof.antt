@@ -7,41 +7,20 @@ use Rattle.word.specs.Field.{field, small}
 use Rattle.multiply.proofs.halfword.Statement.{statement}
 use Rattle.multiply.proofs.halfword.Tie as tie
 
-bits-requires : tie.Need-bits-requires
-bits-requires c κs = search needs
-
-bit-requires : tie.Need-bit-requires
-bit-requires c κs = search needs
-
 halves-requires : tie.Need-halves-requires
 halves-requires c κs = omega arith
-
-adding-requires : tie.Need-adding-requires
-adding-requires c κs = search needs
 
 half-requires : tie.Need-half-requires
 half-requires c κs = omega arith
 
-adding-requires-2 : tie.Need-adding-requires-2
-adding-requires-2 c κs = search needs
-
 half-requires-2 : tie.Need-half-requires-2
 half-requires-2 c κs = omega arith
-
-product-requires : tie.Need-product-requires
-product-requires c κs = search needs
 
 halves-requires-2 : tie.Need-halves-requires-2
 halves-requires-2 c κs = omega arith
 
-long-requires : tie.Need-long-requires
-long-requires c κs = search needs
-
 halves-requires-3 : tie.Need-halves-requires-3
 halves-requires-3 c κs = omega arith
-
-product-requires-2 : tie.Need-product-requires-2
-product-requires-2 c κs = search needs
 
 returns : tie.Need-returns
 returns c =
@@ -93,22 +72,6 @@ returns-5 c =
 
 pub halfword-spec : {M : Type 1} → statement M
 halfword-spec =
-    tie.close
-    (tie.spec
-    bits-requires
-    bit-requires
-    halves-requires
-    adding-requires
-    half-requires
-    adding-requires-2
-    half-requires-2
-    product-requires
-    halves-requires-2
-    long-requires
-    halves-requires-3
-    product-requires-2
-    returns
-    returns-2
-    returns-3
-    returns-4
-    returns-5)
+    tie.close (tie.spec (search needs) (search needs) halves-requires (search needs) half-requires
+    (search needs) half-requires-2 (search needs) halves-requires-2 (search needs) halves-requires-3
+    (search needs) returns returns-2 returns-3 returns-4 returns-5)

@@ -6,9 +6,6 @@ use Rattle.word.specs.Field.{small}
 use Rattle.multiply.proofs.halves.Statement.{statement}
 use Rattle.multiply.proofs.halves.Tie as tie
 
-bit-requires : tie.Need-bit-requires
-bit-requires c κs = search needs
-
 one-bit : (c : tie.After-bit) → c .bit .result < 2
 one-bit c = rw (c .bit .ensures) (small _ _ 1)
 
@@ -28,4 +25,4 @@ returns : tie.Need-returns
 returns c = simp (c .half .ensures, c .before .bit .ensures)
 
 pub halves-spec : {M : Type 1} → statement M
-halves-spec = tie.close (tie.spec bit-requires cast-half mul-half add-half half-requires returns)
+halves-spec = tie.close (tie.spec (search needs) cast-half mul-half add-half half-requires returns)

@@ -4,63 +4,6 @@ use borrow.Author.Tests.{ne-eqb}
 use Rattle.multiply.proofs.multiply.Statement.{statement}
 use Rattle.multiply.proofs.multiply.Tie as tie
 
-bits-requires : tie.Need-bits-requires
-bits-requires c κs = search needs
-
-bit-requires : tie.Need-bit-requires
-bit-requires c κs = search needs
-
-by-s-requires : tie.Need-by-s-requires
-by-s-requires c κs = search needs
-
-product-requires : tie.Need-product-requires
-product-requires c κs = search needs
-
-by-s-requires-2 : tie.Need-by-s-requires-2
-by-s-requires-2 c κs = search needs
-
-adding-requires : tie.Need-adding-requires
-adding-requires c κs = search needs
-
-long-requires : tie.Need-long-requires
-long-requires c κs = search needs
-
-refuse-requires : tie.Need-refuse-requires
-refuse-requires c κs = search needs
-
-adding-requires-2 : tie.Need-adding-requires-2
-adding-requires-2 c κs = search needs
-
-refuse-requires-2 : tie.Need-refuse-requires-2
-refuse-requires-2 c κs = search needs
-
-by-s-requires-3 : tie.Need-by-s-requires-3
-by-s-requires-3 c κs = search needs
-
-long-requires-2 : tie.Need-long-requires-2
-long-requires-2 c κs = search needs
-
-by-s-requires-4 : tie.Need-by-s-requires-4
-by-s-requires-4 c κs = search needs
-
-long-requires-3 : tie.Need-long-requires-3
-long-requires-3 c κs = search needs
-
-by-s-requires-5 : tie.Need-by-s-requires-5
-by-s-requires-5 c κs = search needs
-
-long-requires-4 : tie.Need-long-requires-4
-long-requires-4 c κs = search needs
-
-by-s-requires-6 : tie.Need-by-s-requires-6
-by-s-requires-6 c κs = search needs
-
-long-requires-5 : tie.Need-long-requires-5
-long-requires-5 c κs = search needs
-
-refuse-requires-3 : tie.Need-refuse-requires-3
-refuse-requires-3 c κs = search needs
-
 returns : tie.Need-returns
 returns c =
     simp (
@@ -179,35 +122,8 @@ returns-11 c =
 
 pub multiply-spec : {M : Type 1} → statement M
 multiply-spec =
-    tie.close
-    (tie.spec
-    bits-requires
-    bit-requires
-    by-s-requires
-    product-requires
-    by-s-requires-2
-    adding-requires
-    long-requires
-    refuse-requires
-    adding-requires-2
-    refuse-requires-2
-    by-s-requires-3
-    long-requires-2
-    by-s-requires-4
-    long-requires-3
-    by-s-requires-5
-    long-requires-4
-    by-s-requires-6
-    long-requires-5
-    refuse-requires-3
-    returns
-    returns-2
-    returns-3
-    returns-4
-    returns-5
-    returns-6
-    returns-7
-    returns-8
-    returns-9
-    returns-10
-    returns-11)
+    tie.close (tie.spec (search needs) (search needs) (search needs) (search needs) (search needs)
+    (search needs) (search needs) (search needs) (search needs) (search needs) (search needs)
+    (search needs) (search needs) (search needs) (search needs) (search needs) (search needs)
+    (search needs) (search needs) returns returns-2 returns-3 returns-4 returns-5 returns-6
+    returns-7 returns-8 returns-9 returns-10 returns-11)

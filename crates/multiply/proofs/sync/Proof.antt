@@ -4,30 +4,6 @@ use borrow.Author.Tests.{ne-eqb}
 use Rattle.multiply.proofs.sync.Statement.{statement}
 use Rattle.multiply.proofs.sync.Tie as tie
 
-bits-requires : tie.Need-bits-requires
-bits-requires c κs = search needs
-
-store-requires : tie.Need-store-requires
-store-requires c κs = search needs
-
-load-requires : tie.Need-load-requires
-load-requires c κs = search needs
-
-store-requires-2 : tie.Need-store-requires-2
-store-requires-2 c κs = search needs
-
-load-requires-2 : tie.Need-load-requires-2
-load-requires-2 c κs = search needs
-
-store-requires-3 : tie.Need-store-requires-3
-store-requires-3 c κs = search needs
-
-load-requires-3 : tie.Need-load-requires-3
-load-requires-3 c κs = search needs
-
-refuse-requires : tie.Need-refuse-requires
-refuse-requires c κs = search needs
-
 returns : tie.Need-returns
 returns c = simp (c .store .ensures, c .before .match .keys1, ← (c .before .before .bits .ensures))
 
@@ -61,20 +37,6 @@ returns-7 c =
 
 pub sync-spec : {M : Type 1} → statement M
 sync-spec =
-    tie.close
-    (tie.spec
-    bits-requires
-    store-requires
-    load-requires
-    store-requires-2
-    load-requires-2
-    store-requires-3
-    load-requires-3
-    refuse-requires
-    returns
-    returns-2
-    returns-3
-    returns-4
-    returns-5
-    returns-6
-    returns-7)
+    tie.close (tie.spec (search needs) (search needs) (search needs) (search needs) (search needs)
+    (search needs) (search needs) (search needs) returns returns-2 returns-3 returns-4 returns-5
+    returns-6 returns-7)

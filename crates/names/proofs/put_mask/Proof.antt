@@ -6,18 +6,11 @@ use Rattle.names.proofs.Table.{spelt}
 use Rattle.names.proofs.put_mask.Statement.{statement}
 use Rattle.names.proofs.put_mask.Tie as tie
 
-slice-aggregate-put-entry : tie.Need-slice-aggregate-put-entry
-slice-aggregate-put-entry c = search needs
-
 put-entry-requires : tie.Need-put-entry-requires
 put-entry-requires c κs = (omega arith, rw (spelt 12 masks tt (c .before .before .before .args .mask)) (c .before .before .before .pre))
-
-same-length : tie.Need-same-length
-same-length c = search needs
 
 returns : tie.Need-returns
 returns c = rw (spelt 12 masks tt (c .before .before .before .before .before .before .args .mask)) at (c .before .before .put-entry .ensures)
 
 pub put-mask-spec : {M : Type 1} → statement M
-put-mask-spec =
-    tie.close (tie.spec slice-aggregate-put-entry put-entry-requires same-length returns)
+put-mask-spec = tie.close (tie.spec (search needs) put-entry-requires (λ c. search needs) returns)

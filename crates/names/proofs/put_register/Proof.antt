@@ -7,18 +7,9 @@ use Rattle.names.proofs.Table.{spelt}
 use Rattle.names.proofs.put_register.Statement.{statement}
 use Rattle.names.proofs.put_register.Tie as tie
 
-slice-aggregate-put-entry : tie.Need-slice-aggregate-put-entry
-slice-aggregate-put-entry c = search needs
-
-cast-put-entry : tie.Need-cast-put-entry
-cast-put-entry c = search needs
-
 put-entry-requires : tie.Need-put-entry-requires
 unfolding registerOf
 put-entry-requires c κs = (omega arith, rw (spelt 4 registers tt (c .before .before .before .before .args .reg .0)) (c .before .before .before .before .pre))
-
-same-length : tie.Need-same-length
-same-length c = search needs
 
 returns : tie.Need-returns
 unfolding registerOf
@@ -26,5 +17,5 @@ returns c = rw (spelt 4 registers tt (c .before .before .before .before .before 
 
 pub put-register-spec : {M : Type 1} → statement M
 put-register-spec =
-    tie.close
-    (tie.spec slice-aggregate-put-entry cast-put-entry put-entry-requires same-length returns)
+    tie.close (tie.spec (search needs) (search needs) put-entry-requires (λ c. search needs)
+    returns)

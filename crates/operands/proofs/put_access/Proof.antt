@@ -21,9 +21,6 @@ put-decimal-requires c κs = omega (arith, simp length-append at (c .before .bef
 put-byte-requires-3 : tie.Need-put-byte-requires-3
 put-byte-requires-3 c κs = omega (arith, simp length-append at (c .before .before .before .before .before .before .before .before .before .before .before .before .before .before .before .before .before .before .pre))
 
-same-length : tie.Need-same-length
-same-length c = search needs
-
 returns : tie.Need-returns
 returns c =
     let fifth = c .before .before in
@@ -39,12 +36,5 @@ returns c =
 
 pub put-access-spec : {M : Type 1} → statement M
 put-access-spec =
-    tie.close
-    (tie.spec
-    put-byte-requires
-    put-mode-requires
-    put-byte-requires-2
-    put-decimal-requires
-    put-byte-requires-3
-    same-length
-    returns)
+    tie.close (tie.spec put-byte-requires put-mode-requires put-byte-requires-2 put-decimal-requires
+    put-byte-requires-3 (λ c. search needs) returns)

@@ -18,9 +18,6 @@ unmarked : (m : Mem) → m .«minus_zero» ≡ false → displacementOf m ≡ si
 unfolding displacementOf
 unmarked m e = rw e
 
-slice-aggregate-put : tie.Need-slice-aggregate-put
-slice-aggregate-put c = search needs
-
 put-requires : tie.Need-put-requires
 put-requires c κs = rw (marked (c .before .before .before .before .args .m) (c .before .before .if1 .taken)) at (c .before .before .before .before .pre)
 
@@ -29,14 +26,8 @@ put-signed-requires c κs =
     rw (toZ-ofZ w64 _ (record { sfits = c .struct-told .given .1 .1 .0 .1 }))
     (rw (unmarked (c .before .before .before .before .args .m) (c .before .before .if1 .left)) at (c .before .before .before .before .pre))
 
-same-length : tie.Need-same-length
-same-length c = search needs
-
 returns : tie.Need-returns
 returns c = rw (marked (c .before .before .before .before .before .before .before .args .m) (c .before .before .before .before .before .if1 .taken)) (c .before .before .put .ensures)
-
-same-length-2 : tie.Need-same-length-2
-same-length-2 c = search needs
 
 returns-2 : tie.Need-returns-2
 returns-2 c =
@@ -45,12 +36,5 @@ returns-2 c =
 
 pub put-displacement-spec : {M : Type 1} → statement M
 put-displacement-spec =
-    tie.close
-    (tie.spec
-    slice-aggregate-put
-    put-requires
-    put-signed-requires
-    same-length
-    returns
-    same-length-2
-    returns-2)
+    tie.close (tie.spec (search needs) put-requires put-signed-requires (λ c. search needs) returns
+    (λ c. search needs) returns-2)

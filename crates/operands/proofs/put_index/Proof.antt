@@ -7,15 +7,9 @@ use Rattle.spelling.specs.Line.{indexOf}
 use Rattle.operands.proofs.put_index.Statement.{statement}
 use Rattle.operands.proofs.put_index.Tie as tie
 
-enum-told : tie.Need-enum-told
-enum-told c = search needs
-
 put-byte-requires : tie.Need-put-byte-requires
 unfolding indexOf
 put-byte-requires c κs = rw (c .before .enum-told .given .1) at (c .before .before .before .before .pre)
-
-enum-known-index : tie.Need-enum-known-index
-enum-known-index c = search needs
 
 put-register-requires : tie.Need-put-register-requires
 unfolding indexOf
@@ -27,24 +21,15 @@ put-byte-requires-2 c κs =
     let known = c .before .before .before .before .before .before in
     omega (arith, simp (known .index .given .1, length-append) at (known .before .before .before .pre))
 
-cast-put-decimal : tie.Need-cast-put-decimal
-cast-put-decimal c = search needs
-
 put-decimal-requires : tie.Need-put-decimal-requires
 unfolding indexOf
 put-decimal-requires c κs =
     let known = c .before .before .before .before .before .before .before .before .before .before in
     omega (arith, simp (known .index .given .1, length-append) at (known .before .before .before .pre))
 
-same-length : tie.Need-same-length
-same-length c = search needs
-
 returns : tie.Need-returns
 unfolding indexOf
 returns c = rw (c .before .before .before .before .enum-told .given .1) (c .before .before .put-byte .ensures)
-
-same-length-2 : tie.Need-same-length-2
-same-length-2 c = search needs
 
 returns-2 : tie.Need-returns-2
 unfolding indexOf
@@ -57,16 +42,6 @@ returns-2 c =
 
 pub put-index-spec : {M : Type 1} → statement M
 put-index-spec =
-    tie.close
-    (tie.spec
-    enum-told
-    put-byte-requires
-    enum-known-index
-    put-register-requires
-    put-byte-requires-2
-    cast-put-decimal
-    put-decimal-requires
-    same-length
-    returns
-    same-length-2
-    returns-2)
+    tie.close (tie.spec (search needs) put-byte-requires (search needs) put-register-requires
+    put-byte-requires-2 (search needs) put-decimal-requires (λ c. search needs) returns
+    (λ c. search needs) returns-2)

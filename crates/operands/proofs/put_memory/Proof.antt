@@ -54,9 +54,6 @@ put-access-requires : tie.Need-put-access-requires
 unfolding memoryOf
 put-access-requires c κs = simp length-append (omega (arith, simp length-append at (c .before .before .before .before .before .before .before .before .before .before .before .before .before .before .before .before .before .before .before .before .before .before .before .before .before .before .before .pre)))
 
-same-length : tie.Need-same-length
-same-length c = search needs
-
 returns : tie.Need-returns
 returns c =
     let seventh = c .before .before in
@@ -77,14 +74,6 @@ returns c =
 
 pub put-memory-spec : {M : Type 1} → statement M
 put-memory-spec =
-    tie.close
-    (tie.spec
-    put-byte-requires
-    put-register-requires
-    put-byte-requires-2
-    put-index-requires
-    put-byte-requires-3
-    put-displacement-requires
-    put-access-requires
-    same-length
-    returns)
+    tie.close (tie.spec put-byte-requires put-register-requires put-byte-requires-2
+    put-index-requires put-byte-requires-3 put-displacement-requires put-access-requires
+    (λ c. search needs) returns)

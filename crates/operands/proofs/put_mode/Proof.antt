@@ -4,43 +4,25 @@ use Rattle.spelling.specs.Line.{modeOf}
 use Rattle.operands.proofs.put_mode.Statement.{statement}
 use Rattle.operands.proofs.put_mode.Tie as tie
 
-enum-told : tie.Need-enum-told
-enum-told c = search needs
-
 put-byte-requires : tie.Need-put-byte-requires
 unfolding modeOf
 put-byte-requires c κs = rw (c .before .enum-told .given .1) at (c .before .before .before .before .pre)
-
-enum-told-2 : tie.Need-enum-told-2
-enum-told-2 c = search needs
 
 put-byte-requires-2 : tie.Need-put-byte-requires-2
 unfolding modeOf
 put-byte-requires-2 c κs = rw (c .before .enum-told2 .given .1) at (c .before .before .before .before .pre)
 
-enum-told-3 : tie.Need-enum-told-3
-enum-told-3 c = search needs
-
 put-byte-requires-3 : tie.Need-put-byte-requires-3
 unfolding modeOf
 put-byte-requires-3 c κs = rw (c .before .enum-told3 .given .1) at (c .before .before .before .before .pre)
-
-same-length : tie.Need-same-length
-same-length c = search needs
 
 returns : tie.Need-returns
 unfolding modeOf
 returns c = rw (c .before .before .before .before .enum-told .given .1) (c .before .before .put-byte .ensures)
 
-same-length-2 : tie.Need-same-length-2
-same-length-2 c = search needs
-
 returns-2 : tie.Need-returns-2
 unfolding modeOf
 returns-2 c = rw (c .before .before .before .before .enum-told2 .given .1) (c .before .before .put-byte2 .ensures)
-
-same-length-3 : tie.Need-same-length-3
-same-length-3 c = search needs
 
 returns-3 : tie.Need-returns-3
 unfolding modeOf
@@ -48,17 +30,6 @@ returns-3 c = rw (c .before .before .before .before .enum-told3 .given .1) (c .b
 
 pub put-mode-spec : {M : Type 1} → statement M
 put-mode-spec =
-    tie.close
-    (tie.spec
-    enum-told
-    put-byte-requires
-    enum-told-2
-    put-byte-requires-2
-    enum-told-3
-    put-byte-requires-3
-    same-length
-    returns
-    same-length-2
-    returns-2
-    same-length-3
-    returns-3)
+    tie.close (tie.spec (search needs) put-byte-requires (search needs) put-byte-requires-2
+    (search needs) put-byte-requires-3 (λ c. search needs) returns (λ c. search needs) returns-2
+    (λ c. search needs) returns-3)

@@ -9,18 +9,9 @@ use Rattle.spelling.specs.Line.{operandOf}
 use Rattle.operands.proofs.put_operand.Statement.{statement}
 use Rattle.operands.proofs.put_operand.Tie as tie
 
-enum-told : tie.Need-enum-told
-enum-told c = search needs
-
-enum-known-operand : tie.Need-enum-known-operand
-enum-known-operand c = search needs
-
 put-register-requires : tie.Need-put-register-requires
 unfolding operandOf
 put-register-requires c κs = rw (c .before .before .operand .given .1) at (c .before .before .before .before .before .pre)
-
-enum-known-operand-2 : tie.Need-enum-known-operand-2
-enum-known-operand-2 c = search needs
 
 put-register-requires-2 : tie.Need-put-register-requires-2
 unfolding operandOf
@@ -44,17 +35,11 @@ put-byte-requires-2 c κs =
     let known = c .before .before .before .before .before .before .before .before .before .before .before .before .before .before in
     omega (arith, simp (known .operand2 .given .1, length-append) at (known .before .before .before .pre))
 
-cast-put-decimal : tie.Need-cast-put-decimal
-cast-put-decimal c = search needs
-
 put-decimal-requires : tie.Need-put-decimal-requires
 unfolding operandOf
 put-decimal-requires c κs =
     let known = c .before .before .before .before .before .before .before .before .before .before .before .before .before .before .before .before .before .before in
     omega (arith, simp (known .operand2 .given .1, length-append) at (known .before .before .before .pre))
-
-enum-known-operand-3 : tie.Need-enum-known-operand-3
-enum-known-operand-3 c = search needs
 
 put-shift-requires-2 : tie.Need-put-shift-requires-2
 unfolding operandOf
@@ -72,9 +57,6 @@ put-register-requires-3 c κs =
     let known = c .before .before .before .before .before .before .before .before .before .before in
     omega (arith, simp (known .operand3 .given .1, length-append) at (known .before .before .before .pre))
 
-enum-known-operand-4 : tie.Need-enum-known-operand-4
-enum-known-operand-4 c = search needs
-
 put-shift-requires-3 : tie.Need-put-shift-requires-3
 unfolding operandOf
 put-shift-requires-3 c κs = omega (arith, simp (c .before .before .operand4 .given .1, length-append) at (c .before .before .before .before .before .pre))
@@ -85,20 +67,11 @@ put-byte-requires-4 c κs =
     let known = c .before .before .before .before .before .before in
     omega (arith, simp (known .operand4 .given .1, length-append) at (known .before .before .before .pre))
 
-cast-put-decimal-2 : tie.Need-cast-put-decimal-2
-cast-put-decimal-2 c = search needs
-
 put-decimal-requires-2 : tie.Need-put-decimal-requires-2
 unfolding operandOf
 put-decimal-requires-2 c κs =
     let known = c .before .before .before .before .before .before .before .before .before .before in
     omega (arith, simp (known .operand4 .given .1, length-append) at (known .before .before .before .pre))
-
-enum-known-operand-5 : tie.Need-enum-known-operand-5
-enum-known-operand-5 c = search needs
-
-slice-aggregate-put : tie.Need-slice-aggregate-put
-slice-aggregate-put c = search needs
 
 put-requires : tie.Need-put-requires
 unfolding operandOf
@@ -106,17 +79,11 @@ put-requires c κs =
     let known = c .before .before .before in
     omega (arith, simp (known .operand5 .given .1, length-append) at (known .before .before .before .pre))
 
-cast-put-decimal-3 : tie.Need-cast-put-decimal-3
-cast-put-decimal-3 c = search needs
-
 put-decimal-requires-3 : tie.Need-put-decimal-requires-3
 unfolding operandOf
 put-decimal-requires-3 c κs =
     let known = c .before .before .before .before .before .before .before in
     omega (arith, simp (known .operand5 .given .1, length-append) at (known .before .before .before .pre))
-
-enum-known-operand-6 : tie.Need-enum-known-operand-6
-enum-known-operand-6 c = search needs
 
 put-byte-requires-5 : tie.Need-put-byte-requires-5
 unfolding operandOf
@@ -129,15 +96,9 @@ put-signed-requires c κs =
     rw (toZ-ofZ w64 _ (record { sfits = told .known-told6 .given .0 .1 }))
     (omega (arith, simp (told .before .operand6 .given .1, length-append) at (told .before .before .before .before .pre)))
 
-enum-known-operand-7 : tie.Need-enum-known-operand-7
-enum-known-operand-7 c = search needs
-
 put-byte-requires-6 : tie.Need-put-byte-requires-6
 unfolding operandOf
 put-byte-requires-6 c κs = omega (arith, simp (c .before .before .operand7 .given .1, length-append) at (c .before .before .before .before .before .pre))
-
-cast-put-decimal-4 : tie.Need-cast-put-decimal-4
-cast-put-decimal-4 c = search needs
 
 put-decimal-requires-4 : tie.Need-put-decimal-requires-4
 unfolding operandOf
@@ -145,22 +106,13 @@ put-decimal-requires-4 c κs =
     let known = c .before .before .before .before .before .before in
     omega (arith, simp (known .operand7 .given .1, length-append) at (known .before .before .before .pre))
 
-enum-known-operand-8 : tie.Need-enum-known-operand-8
-enum-known-operand-8 c = search needs
-
 put-mask-requires : tie.Need-put-mask-requires
 unfolding operandOf
 put-mask-requires c κs = rw (c .before .before .operand8 .given .1) at (c .before .before .before .before .before .pre)
 
-enum-known-operand-9 : tie.Need-enum-known-operand-9
-enum-known-operand-9 c = search needs
-
 put-source-requires : tie.Need-put-source-requires
 unfolding operandOf
 put-source-requires c κs = rw (c .before .before .operand9 .given .1) at (c .before .before .before .before .before .pre)
-
-enum-known-operand-10 : tie.Need-enum-known-operand-10
-enum-known-operand-10 c = search needs
 
 put-register-requires-4 : tie.Need-put-register-requires-4
 unfolding operandOf
@@ -172,15 +124,9 @@ put-byte-requires-7 c κs =
     let known = c .before .before .before .before .before .before in
     omega (arith, simp (known .operand10 .given .1, length-append) at (known .before .before .before .pre))
 
-enum-known-operand-11 : tie.Need-enum-known-operand-11
-enum-known-operand-11 c = search needs
-
 put-byte-requires-8 : tie.Need-put-byte-requires-8
 unfolding operandOf
 put-byte-requires-8 c κs = omega (arith, simp (c .before .before .operand11 .given .1, length-append) at (c .before .before .before .before .before .pre))
-
-cast-put-hex : tie.Need-cast-put-hex
-cast-put-hex c = search needs
 
 put-hex-requires : tie.Need-put-hex-requires
 unfolding operandOf
@@ -194,9 +140,6 @@ put-byte-requires-9 c κs =
     let known = c .before .before .before .before .before .before .before .before .before .before in
     omega (arith, simp (known .operand11 .given .1, length-append) at (known .before .before .before .pre))
 
-enum-known-operand-12 : tie.Need-enum-known-operand-12
-enum-known-operand-12 c = search needs
-
 put-byte-requires-10 : tie.Need-put-byte-requires-10
 unfolding operandOf
 put-byte-requires-10 c κs = omega (arith, simp (c .before .before .operand12 .given .1, length-append) at (c .before .before .before .before .before .pre))
@@ -207,15 +150,9 @@ put-hex-requires-2 c κs =
     let known = c .before .before .before .before .before .before in
     (omega arith, omega (arith, simp (known .operand12 .given .1, length-append) at (known .before .before .before .pre)))
 
-enum-known-operand-13 : tie.Need-enum-known-operand-13
-enum-known-operand-13 c = search needs
-
 put-memory-requires : tie.Need-put-memory-requires
 unfolding operandOf
 put-memory-requires c κs = rw (c .before .before .operand13 .given .1) at (c .before .before .before .before .before .pre)
-
-enum-known-operand-14 : tie.Need-enum-known-operand-14
-enum-known-operand-14 c = search needs
 
 put-barrier-requires : tie.Need-put-barrier-requires
 unfolding operandOf
@@ -225,15 +162,9 @@ returns : tie.Need-returns
 unfolding operandOf
 returns c = rw (c .enum-told .given .1) (none _ _)
 
-same-length : tie.Need-same-length
-same-length c = search needs
-
 returns-2 : tie.Need-returns-2
 unfolding operandOf
 returns-2 c = rw (c .before .before .before .before .before .operand .given .1) (c .before .before .put-register .ensures)
-
-same-length-2 : tie.Need-same-length-2
-same-length-2 c = search needs
 
 returns-3 : tie.Need-returns-3
 unfolding operandOf
@@ -250,9 +181,6 @@ returns-3 c =
     then fourth .put-byte2 .ensures
     then fifth .put-decimal .ensures)
 
-same-length-3 : tie.Need-same-length-3
-same-length-3 c = search needs
-
 returns-4 : tie.Need-returns-4
 unfolding operandOf
 returns-4 c =
@@ -261,9 +189,6 @@ returns-4 c =
     let first = second .before .before .before .before in
     rw (first .before .before .before .operand3 .given .1)
     (first .put-shift2 .ensures then second .put-byte3 .ensures then third .put-register3 .ensures)
-
-same-length-4 : tie.Need-same-length-4
-same-length-4 c = search needs
 
 returns-5 : tie.Need-returns-5
 unfolding operandOf
@@ -274,9 +199,6 @@ returns-5 c =
     rw (first .before .before .before .operand4 .given .1)
     (first .put-shift3 .ensures then second .put-byte4 .ensures then third .put-decimal2 .ensures)
 
-same-length-5 : tie.Need-same-length-5
-same-length-5 c = search needs
-
 returns-6 : tie.Need-returns-6
 unfolding operandOf
 returns-6 c =
@@ -284,9 +206,6 @@ returns-6 c =
     let first = second .before .before .before .before in
     rw (first .before .before .before .before .operand5 .given .1)
     (first .put .ensures then second .put-decimal3 .ensures)
-
-same-length-6 : tie.Need-same-length-6
-same-length-6 c = search needs
 
 returns-7 : tie.Need-returns-7
 unfolding operandOf
@@ -297,9 +216,6 @@ returns-7 c =
     (first .put-byte5 .ensures
     then rw (toZ-ofZ w64 _ (record { sfits = first .before .before .known-told6 .given .0 .1 })) at (second .put-signed .ensures))
 
-same-length-7 : tie.Need-same-length-7
-same-length-7 c = search needs
-
 returns-8 : tie.Need-returns-8
 unfolding operandOf
 returns-8 c =
@@ -308,22 +224,13 @@ returns-8 c =
     rw (first .before .before .before .operand7 .given .1)
     (first .put-byte6 .ensures then second .put-decimal4 .ensures)
 
-same-length-8 : tie.Need-same-length-8
-same-length-8 c = search needs
-
 returns-9 : tie.Need-returns-9
 unfolding operandOf
 returns-9 c = rw (c .before .before .before .before .before .operand8 .given .1) (c .before .before .put-mask .ensures)
 
-same-length-9 : tie.Need-same-length-9
-same-length-9 c = search needs
-
 returns-10 : tie.Need-returns-10
 unfolding operandOf
 returns-10 c = rw (c .before .before .before .before .before .operand9 .given .1) (c .before .before .put-source .ensures)
-
-same-length-10 : tie.Need-same-length-10
-same-length-10 c = search needs
 
 returns-11 : tie.Need-returns-11
 unfolding operandOf
@@ -332,9 +239,6 @@ returns-11 c =
     let first = second .before .before .before .before in
     rw (first .before .before .before .operand10 .given .1)
     (first .put-register4 .ensures then second .put-byte7 .ensures)
-
-same-length-11 : tie.Need-same-length-11
-same-length-11 c = search needs
 
 returns-12 : tie.Need-returns-12
 unfolding operandOf
@@ -345,9 +249,6 @@ returns-12 c =
     rw (first .before .before .before .operand11 .given .1)
     (first .put-byte8 .ensures then second .put-hex .ensures then third .put-byte9 .ensures)
 
-same-length-12 : tie.Need-same-length-12
-same-length-12 c = search needs
-
 returns-13 : tie.Need-returns-13
 unfolding operandOf
 returns-13 c =
@@ -356,15 +257,9 @@ returns-13 c =
     rw (first .before .before .before .operand12 .given .1)
     (first .put-byte10 .ensures then second .put-hex2 .ensures)
 
-same-length-13 : tie.Need-same-length-13
-same-length-13 c = search needs
-
 returns-14 : tie.Need-returns-14
 unfolding operandOf
 returns-14 c = rw (c .before .before .before .before .before .operand13 .given .1) (c .before .before .put-memory .ensures)
-
-same-length-14 : tie.Need-same-length-14
-same-length-14 c = search needs
 
 returns-15 : tie.Need-returns-15
 unfolding operandOf
@@ -372,84 +267,19 @@ returns-15 c = rw (c .before .before .before .before .before .operand14 .given .
 
 pub put-operand-spec : {M : Type 1} → statement M
 put-operand-spec =
-    tie.close
-    (tie.spec
-    enum-told
-    enum-known-operand
-    put-register-requires
-    enum-known-operand-2
-    put-register-requires-2
-    put-byte-requires
-    put-shift-requires
-    put-byte-requires-2
-    cast-put-decimal
-    put-decimal-requires
-    enum-known-operand-3
-    put-shift-requires-2
-    put-byte-requires-3
-    put-register-requires-3
-    enum-known-operand-4
-    put-shift-requires-3
-    put-byte-requires-4
-    cast-put-decimal-2
-    put-decimal-requires-2
-    enum-known-operand-5
-    slice-aggregate-put
-    put-requires
-    cast-put-decimal-3
-    put-decimal-requires-3
-    enum-known-operand-6
-    put-byte-requires-5
-    put-signed-requires
-    enum-known-operand-7
-    put-byte-requires-6
-    cast-put-decimal-4
-    put-decimal-requires-4
-    enum-known-operand-8
-    put-mask-requires
-    enum-known-operand-9
-    put-source-requires
-    enum-known-operand-10
-    put-register-requires-4
-    put-byte-requires-7
-    enum-known-operand-11
-    put-byte-requires-8
-    cast-put-hex
-    put-hex-requires
-    put-byte-requires-9
-    enum-known-operand-12
-    put-byte-requires-10
-    put-hex-requires-2
-    enum-known-operand-13
-    put-memory-requires
-    enum-known-operand-14
-    put-barrier-requires
-    returns
-    same-length
-    returns-2
-    same-length-2
-    returns-3
-    same-length-3
-    returns-4
-    same-length-4
-    returns-5
-    same-length-5
-    returns-6
-    same-length-6
-    returns-7
-    same-length-7
-    returns-8
-    same-length-8
-    returns-9
-    same-length-9
-    returns-10
-    same-length-10
-    returns-11
-    same-length-11
-    returns-12
-    same-length-12
-    returns-13
-    same-length-13
-    returns-14
-    same-length-14
+    tie.close (tie.spec (search needs) (search needs) put-register-requires (search needs)
+    put-register-requires-2 put-byte-requires put-shift-requires put-byte-requires-2 (search needs)
+    put-decimal-requires (search needs) put-shift-requires-2 put-byte-requires-3
+    put-register-requires-3 (search needs) put-shift-requires-3 put-byte-requires-4 (search needs)
+    put-decimal-requires-2 (search needs) (search needs) put-requires (search needs)
+    put-decimal-requires-3 (search needs) put-byte-requires-5 put-signed-requires (search needs)
+    put-byte-requires-6 (search needs) put-decimal-requires-4 (search needs) put-mask-requires
+    (search needs) put-source-requires (search needs) put-register-requires-4 put-byte-requires-7
+    (search needs) put-byte-requires-8 (search needs) put-hex-requires put-byte-requires-9
+    (search needs) put-byte-requires-10 put-hex-requires-2 (search needs) put-memory-requires
+    (search needs) put-barrier-requires returns (λ c. search needs) returns-2 (λ c. search needs)
+    returns-3 (λ c. search needs) returns-4 (λ c. search needs) returns-5 (λ c. search needs)
+    returns-6 (λ c. search needs) returns-7 (λ c. search needs) returns-8 (λ c. search needs)
+    returns-9 (λ c. search needs) returns-10 (λ c. search needs) returns-11 (λ c. search needs)
+    returns-12 (λ c. search needs) returns-13 (λ c. search needs) returns-14 (λ c. search needs)
     returns-15)

@@ -16,9 +16,6 @@ use Rattle.operands.proofs.put_place.Tie as tie
 used : (c : tie.Else1) → eqb (operandNumber (c .before .before .before .args .operand)) 0 ≡ false
 used c = ne-eqb _ 0 (λ e. c .if1 .left (c .before .number .ensures ∙ e))
 
-number-requires : tie.Need-number-requires
-number-requires c κs = search needs
-
 put-byte-requires : tie.Need-put-byte-requires
 unfolding placeOf
 put-byte-requires c κs = omega (arith, simp (used (c .before), length-append) at (c .before .before .before .before .pre))
@@ -33,9 +30,6 @@ returns : tie.Need-returns
 unfolding placeOf
 returns c = rw (eq-eqb _ 0 (sym (c .before .number .ensures) ∙ c .if1 .taken)) (none _ _)
 
-same-length : tie.Need-same-length
-same-length c = search needs
-
 returns-2 : tie.Need-returns-2
 unfolding placeOf
 returns-2 c =
@@ -45,5 +39,5 @@ returns-2 c =
 
 pub put-place-spec : {M : Type 1} → statement M
 put-place-spec =
-    tie.close
-    (tie.spec number-requires put-byte-requires put-operand-requires returns same-length returns-2)
+    tie.close (tie.spec (search needs) put-byte-requires put-operand-requires returns
+    (λ c. search needs) returns-2)

@@ -26,18 +26,6 @@ in-turn (a ∷ b ∷ c ∷ d ∷ x ∷ ps) e = absurd (omega arith)
 texts : (c : tie.Start) → placesOf (c .args .t3) ≡ textAt (c .args .t3) 0 ++ textAt (c .args .t3) 1 ++ textAt (c .args .t3) 2 ++ textAt (c .args .t3) 3
 texts c = in-turn (c .args .t3) (c .good .1 .1 .0 .1 .0 .1)
 
-array-copy-out-a : tie.Need-array-copy-out-a
-array-copy-out-a c = search needs
-
-array-copy-out-b : tie.Need-array-copy-out-b
-array-copy-out-b c = search needs
-
-array-copy-out-c : tie.Need-array-copy-out-c
-array-copy-out-c c = search needs
-
-array-copy-out-d : tie.Need-array-copy-out-d
-array-copy-out-d c = search needs
-
 put-place-requires : tie.Need-put-place-requires
 put-place-requires c κs =
     let start = c .before .before .before .before .before .before in
@@ -58,9 +46,6 @@ put-place-requires-4 c κs =
     let start = c .before .before .before .before .before .before .before .before .before .before .before .before .before .before .before .before .before .before in
     omega (arith, simp (texts start, length-append) at (start .pre))
 
-same-length : tie.Need-same-length
-same-length c = search needs
-
 returns : tie.Need-returns
 returns c =
     let fourth = c .before .before in
@@ -72,15 +57,6 @@ returns c =
 
 pub put-places-spec : {M : Type 1} → statement M
 put-places-spec =
-    tie.close
-    (tie.spec
-    array-copy-out-a
-    array-copy-out-b
-    array-copy-out-c
-    array-copy-out-d
-    put-place-requires
-    put-place-requires-2
-    put-place-requires-3
-    put-place-requires-4
-    same-length
-    returns)
+    tie.close (tie.spec (search needs) (search needs) (search needs) (search needs)
+    put-place-requires put-place-requires-2 put-place-requires-3 put-place-requires-4
+    (λ c. search needs) returns)

@@ -5,123 +5,6 @@ use mir.ValLaws.{toZ-ofZ}
 use Rattle.parts.proofs.flatten.Statement.{statement}
 use Rattle.parts.proofs.flatten.Tie as tie
 
-enum-told : tie.Need-enum-told
-enum-told c = search needs
-
-plain-requires : tie.Need-plain-requires
-plain-requires c κs = search needs
-
-enum-known-o : tie.Need-enum-known-o
-enum-known-o c = search needs
-
-plain-requires-2 : tie.Need-plain-requires-2
-plain-requires-2 c κs = search needs
-
-enum-known-o-2 : tie.Need-enum-known-o-2
-enum-known-o-2 c = search needs
-
-number-requires : tie.Need-number-requires
-number-requires c κs = search needs
-
-plain-requires-3 : tie.Need-plain-requires-3
-plain-requires-3 c κs = search needs
-
-enum-known-o-3 : tie.Need-enum-known-o-3
-enum-known-o-3 c = search needs
-
-number-requires-2 : tie.Need-number-requires-2
-number-requires-2 c κs = search needs
-
-plain-requires-4 : tie.Need-plain-requires-4
-plain-requires-4 c κs = search needs
-
-enum-known-o-4 : tie.Need-enum-known-o-4
-enum-known-o-4 c = search needs
-
-number-requires-3 : tie.Need-number-requires-3
-number-requires-3 c κs = search needs
-
-plain-requires-5 : tie.Need-plain-requires-5
-plain-requires-5 c κs = search needs
-
-enum-known-o-5 : tie.Need-enum-known-o-5
-enum-known-o-5 c = search needs
-
-plain-requires-6 : tie.Need-plain-requires-6
-plain-requires-6 c κs = search needs
-
-enum-known-o-6 : tie.Need-enum-known-o-6
-enum-known-o-6 c = search needs
-
-sign-requires : tie.Need-sign-requires
-sign-requires c κs = search needs
-
-magnitude-requires : tie.Need-magnitude-requires
-magnitude-requires c κs = search needs
-
-plain-requires-7 : tie.Need-plain-requires-7
-plain-requires-7 c κs = search needs
-
-enum-known-o-7 : tie.Need-enum-known-o-7
-enum-known-o-7 c = search needs
-
-word-requires : tie.Need-word-requires
-word-requires c κs = search needs
-
-plain-requires-8 : tie.Need-plain-requires-8
-plain-requires-8 c κs = search needs
-
-enum-known-o-8 : tie.Need-enum-known-o-8
-enum-known-o-8 c = search needs
-
-plain-requires-9 : tie.Need-plain-requires-9
-plain-requires-9 c κs = search needs
-
-enum-known-o-9 : tie.Need-enum-known-o-9
-enum-known-o-9 c = search needs
-
-number-requires-4 : tie.Need-number-requires-4
-number-requires-4 c κs = search needs
-
-plain-requires-10 : tie.Need-plain-requires-10
-plain-requires-10 c κs = search needs
-
-enum-known-o-10 : tie.Need-enum-known-o-10
-enum-known-o-10 c = search needs
-
-plain-requires-11 : tie.Need-plain-requires-11
-plain-requires-11 c κs = search needs
-
-enum-known-o-11 : tie.Need-enum-known-o-11
-enum-known-o-11 c = search needs
-
-half-requires : tie.Need-half-requires
-half-requires c κs = search needs
-
-plain-requires-12 : tie.Need-plain-requires-12
-plain-requires-12 c κs = search needs
-
-enum-known-o-12 : tie.Need-enum-known-o-12
-enum-known-o-12 c = search needs
-
-word-requires-2 : tie.Need-word-requires-2
-word-requires-2 c κs = search needs
-
-plain-requires-13 : tie.Need-plain-requires-13
-plain-requires-13 c κs = search needs
-
-enum-known-o-13 : tie.Need-enum-known-o-13
-enum-known-o-13 c = search needs
-
-memory-requires : tie.Need-memory-requires
-memory-requires c κs = search needs
-
-enum-known-o-14 : tie.Need-enum-known-o-14
-enum-known-o-14 c = search needs
-
-plain-requires-14 : tie.Need-plain-requires-14
-plain-requires-14 c κs = search needs
-
 returns : tie.Need-returns
 returns c = simp (c .plain .ensures, c .before .enum-told .given .1)
 
@@ -182,59 +65,12 @@ returns-15 c = simp (c .plain14 .ensures, c .before .before .o14 .given .1)
 
 pub flatten-spec : {M : Type 1} → statement M
 flatten-spec =
-    tie.close
-    (tie.spec
-    enum-told
-    plain-requires
-    enum-known-o
-    plain-requires-2
-    enum-known-o-2
-    number-requires
-    plain-requires-3
-    enum-known-o-3
-    number-requires-2
-    plain-requires-4
-    enum-known-o-4
-    number-requires-3
-    plain-requires-5
-    enum-known-o-5
-    plain-requires-6
-    enum-known-o-6
-    sign-requires
-    magnitude-requires
-    plain-requires-7
-    enum-known-o-7
-    word-requires
-    plain-requires-8
-    enum-known-o-8
-    plain-requires-9
-    enum-known-o-9
-    number-requires-4
-    plain-requires-10
-    enum-known-o-10
-    plain-requires-11
-    enum-known-o-11
-    half-requires
-    plain-requires-12
-    enum-known-o-12
-    word-requires-2
-    plain-requires-13
-    enum-known-o-13
-    memory-requires
-    enum-known-o-14
-    plain-requires-14
-    returns
-    returns-2
-    returns-3
-    returns-4
-    returns-5
-    returns-6
-    returns-7
-    returns-8
-    returns-9
-    returns-10
-    returns-11
-    returns-12
-    returns-13
-    returns-14
-    returns-15)
+    tie.close (tie.spec (search needs) (search needs) (search needs) (search needs) (search needs)
+    (search needs) (search needs) (search needs) (search needs) (search needs) (search needs)
+    (search needs) (search needs) (search needs) (search needs) (search needs) (search needs)
+    (search needs) (search needs) (search needs) (search needs) (search needs) (search needs)
+    (search needs) (search needs) (search needs) (search needs) (search needs) (search needs)
+    (search needs) (search needs) (search needs) (search needs) (search needs) (search needs)
+    (search needs) (search needs) (search needs) (search needs) returns returns-2 returns-3
+    returns-4 returns-5 returns-6 returns-7 returns-8 returns-9 returns-10 returns-11 returns-12
+    returns-13 returns-14 returns-15)

@@ -5,30 +5,6 @@ use mir.ValLaws.{toZ-ofZ}
 use Rattle.parts.proofs.memory.Statement.{statement}
 use Rattle.parts.proofs.memory.Tie as tie
 
-index-number-requires : tie.Need-index-number-requires
-index-number-requires c κs = search needs
-
-index-amount-requires : tie.Need-index-amount-requires
-index-amount-requires c κs = search needs
-
-sign-requires : tie.Need-sign-requires
-sign-requires c κs = search needs
-
-magnitude-requires : tie.Need-magnitude-requires
-magnitude-requires c κs = search needs
-
-index-reg-requires : tie.Need-index-reg-requires
-index-reg-requires c κs = search needs
-
-number-requires : tie.Need-number-requires
-number-requires c κs = search needs
-
-mark-requires : tie.Need-mark-requires
-mark-requires c κs = search needs
-
-mark-requires-2 : tie.Need-mark-requires-2
-mark-requires-2 c κs = search needs
-
 returns : tie.Need-returns
 returns c =
     let start = c .before .before .before .before .before .before .before .before .before .before .before in
@@ -47,14 +23,5 @@ returns c =
 
 pub memory-spec : {M : Type 1} → statement M
 memory-spec =
-    tie.close
-    (tie.spec
-    index-number-requires
-    index-amount-requires
-    sign-requires
-    magnitude-requires
-    index-reg-requires
-    number-requires
-    mark-requires
-    mark-requires-2
-    returns)
+    tie.close (tie.spec (search needs) (search needs) (search needs) (search needs) (search needs)
+    (search needs) (search needs) (search needs) returns)

@@ -4,15 +4,6 @@ use Rattle.row.proofs.Holds.{on, off}
 use Rattle.row.proofs.has_flat.Statement.{statement}
 use Rattle.row.proofs.has_flat.Tie as tie
 
-has-first-requires : tie.Need-has-first-requires
-has-first-requires c κs = search needs
-
-add-has-last : tie.Need-add-has-last
-add-has-last c = search needs
-
-has-last-requires : tie.Need-has-last-requires
-has-last-requires c κs = search needs
-
 returns : tie.Need-returns
 returns c = on (c .before .before .has-first .ensures) (c .before .if1 .taken) (c .has-last .ensures)
 
@@ -20,5 +11,4 @@ returns-2 : tie.Need-returns-2
 returns-2 c = off _ (c .before .has-first .ensures) (c .if1 .left)
 
 pub has-flat-spec : {M : Type 1} → statement M
-has-flat-spec =
-    tie.close (tie.spec has-first-requires add-has-last has-last-requires returns returns-2)
+has-flat-spec = tie.close (tie.spec (search needs) (search needs) (search needs) returns returns-2)

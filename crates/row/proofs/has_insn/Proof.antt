@@ -4,33 +4,6 @@ use Rattle.row.proofs.Holds.{on, off}
 use Rattle.row.proofs.has_insn.Statement.{statement}
 use Rattle.row.proofs.has_insn.Tie as tie
 
-cast-has-three : tie.Need-cast-has-three
-cast-has-three c = search needs
-
-cast-has-three-2 : tie.Need-cast-has-three-2
-cast-has-three-2 c = search needs
-
-has-three-requires : tie.Need-has-three-requires
-has-three-requires c κs = search needs
-
-number-requires : tie.Need-number-requires
-number-requires c κs = search needs
-
-cast-has-two : tie.Need-cast-has-two
-cast-has-two c = search needs
-
-target-requires : tie.Need-target-requires
-target-requires c κs = search needs
-
-cast-has-two-2 : tie.Need-cast-has-two-2
-cast-has-two-2 c = search needs
-
-has-two-requires : tie.Need-has-two-requires
-has-two-requires c κs = search needs
-
-has-places-requires : tie.Need-has-places-requires
-has-places-requires c κs = search needs
-
 returns : tie.Need-returns
 returns c =
     let second = c .before .before in
@@ -52,17 +25,5 @@ returns-3 c = off _ (c .before .has-three .ensures) (c .if1 .left)
 
 pub has-insn-spec : {M : Type 1} → statement M
 has-insn-spec =
-    tie.close
-    (tie.spec
-    cast-has-three
-    cast-has-three-2
-    has-three-requires
-    number-requires
-    cast-has-two
-    target-requires
-    cast-has-two-2
-    has-two-requires
-    has-places-requires
-    returns
-    returns-2
-    returns-3)
+    tie.close (tie.spec (search needs) (search needs) (search needs) (search needs) (search needs)
+    (search needs) (search needs) (search needs) (search needs) returns returns-2 returns-3)

@@ -5,26 +5,11 @@ use Rattle.row.proofs.Sign.{sign-below}
 use Rattle.row.proofs.has_operand.Statement.{statement}
 use Rattle.row.proofs.has_operand.Tie as tie
 
-enum-told : tie.Need-enum-told
-enum-told c = search needs
-
-bare-requires : tie.Need-bare-requires
-bare-requires c κs = search needs
-
 has-flat-requires : tie.Need-has-flat-requires
 has-flat-requires c κs = (search needs, rw (c .bare .ensures) (omega arith))
 
-enum-known-o : tie.Need-enum-known-o
-enum-known-o c = search needs
-
-bare-requires-2 : tie.Need-bare-requires-2
-bare-requires-2 c κs = search needs
-
 has-flat-requires-2 : tie.Need-has-flat-requires-2
 has-flat-requires-2 c κs = (search needs, rw (c .bare2 .ensures) (omega arith))
-
-flatten-requires : tie.Need-flatten-requires
-flatten-requires c κs = search needs
 
 has-flat-requires-3 : tie.Need-has-flat-requires-3
 has-flat-requires-3 c κs = (search needs, rw (c .flatten .ensures) (sign-below (c .before .before .before .args .o)))
@@ -40,16 +25,6 @@ returns-3 c = rw (c .before .flatten .ensures) at (c .has-flat3 .ensures)
 
 pub has-operand-spec : {M : Type 1} → statement M
 has-operand-spec =
-    tie.close
-    (tie.spec
-    enum-told
-    bare-requires
-    has-flat-requires
-    enum-known-o
-    bare-requires-2
-    has-flat-requires-2
-    flatten-requires
-    has-flat-requires-3
-    returns
-    returns-2
+    tie.close (tie.spec (search needs) (search needs) has-flat-requires (search needs)
+    (search needs) has-flat-requires-2 (search needs) has-flat-requires-3 returns returns-2
     returns-3)

@@ -18,18 +18,6 @@ four c = c .good .1 .0 .1 .0 .1
 size : (c : lts.Start (has-operand.Asked, has-operand.Learnt) reads.Pre reads.Post) → length (placesRow (c .args .t2)) ≡ 44
 size c = places-size (c .args .t2) (four c)
 
-array-copy-out-a : tie.Need-array-copy-out-a
-array-copy-out-a c = search needs
-
-array-copy-out-b : tie.Need-array-copy-out-b
-array-copy-out-b c = search needs
-
-array-copy-out-c : tie.Need-array-copy-out-c
-array-copy-out-c c = search needs
-
-array-copy-out-d : tie.Need-array-copy-out-d
-array-copy-out-d c = search needs
-
 has-operand-requires : tie.Need-has-operand-requires
 has-operand-requires c κs = let start = c .before .before .before .before .before in omega (arith, start .pre, size start)
 
@@ -82,17 +70,6 @@ returns-4 c =
 
 pub has-places-spec : {M : Type 1} → statement M
 has-places-spec =
-    tie.close
-    (tie.spec
-    array-copy-out-a
-    array-copy-out-b
-    array-copy-out-c
-    array-copy-out-d
-    has-operand-requires
-    has-operand-requires-2
-    has-operand-requires-3
-    has-operand-requires-4
-    returns
-    returns-2
-    returns-3
-    returns-4)
+    tie.close (tie.spec (search needs) (search needs) (search needs) (search needs)
+    has-operand-requires has-operand-requires-2 has-operand-requires-3 has-operand-requires-4
+    returns returns-2 returns-3 returns-4)

@@ -4,15 +4,6 @@ use Rattle.row.proofs.Holds.{on, off}
 use Rattle.row.proofs.has_three.Statement.{statement}
 use Rattle.row.proofs.has_three.Tie as tie
 
-has-two-requires : tie.Need-has-two-requires
-has-two-requires c κs = search needs
-
-add-has : tie.Need-add-has
-add-has c = search needs
-
-has-requires : tie.Need-has-requires
-has-requires c κs = search needs
-
 returns : tie.Need-returns
 returns c = on (c .before .before .has-two .ensures) (c .before .if1 .taken) (c .has .ensures)
 
@@ -20,4 +11,4 @@ returns-2 : tie.Need-returns-2
 returns-2 c = off _ (c .before .has-two .ensures) (c .if1 .left)
 
 pub has-three-spec : {M : Type 1} → statement M
-has-three-spec = tie.close (tie.spec has-two-requires add-has has-requires returns returns-2)
+has-three-spec = tie.close (tie.spec (search needs) (search needs) (search needs) returns returns-2)

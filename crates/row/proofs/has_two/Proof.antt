@@ -4,15 +4,6 @@ use Rattle.row.proofs.Holds.{on, off}
 use Rattle.row.proofs.has_two.Statement.{statement}
 use Rattle.row.proofs.has_two.Tie as tie
 
-has-requires : tie.Need-has-requires
-has-requires c κs = search needs
-
-add-has : tie.Need-add-has
-add-has c = search needs
-
-has-requires-2 : tie.Need-has-requires-2
-has-requires-2 c κs = search needs
-
 returns : tie.Need-returns
 returns c = on (c .before .before .has .ensures) (c .before .if1 .taken) (c .has2 .ensures)
 
@@ -20,4 +11,4 @@ returns-2 : tie.Need-returns-2
 returns-2 c = off _ (c .before .has .ensures) (c .if1 .left)
 
 pub has-two-spec : {M : Type 1} → statement M
-has-two-spec = tie.close (tie.spec has-requires add-has has-requires-2 returns returns-2)
+has-two-spec = tie.close (tie.spec (search needs) (search needs) (search needs) returns returns-2)

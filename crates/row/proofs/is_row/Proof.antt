@@ -20,17 +20,8 @@ size c = row-size (c .args .i) (simp length-map at (c .good .1 .0 .1 .1 .1 .1 .1
 has-insn-requires : tie.Need-has-insn-requires
 has-insn-requires c κs = omega (arith, c .if1 .taken, size (c .before .before))
 
-padded-requires : tie.Need-padded-requires
-padded-requires c κs = search needs
-
-slice-aggregate-has-insn : tie.Need-slice-aggregate-has-insn
-slice-aggregate-has-insn c = search needs
-
 has-insn-requires-2 : tie.Need-has-insn-requires-2
 has-insn-requires-2 c κs = omega (arith, c .before .padded .ensures .0, size (c .before .before .before .before))
-
-returns : tie.Need-returns
-returns c = search needs
 
 returns-2 : tie.Need-returns-2
 returns-2 c =
@@ -41,11 +32,5 @@ returns-2 c =
 
 pub is-row-spec : {M : Type 1} → statement M
 is-row-spec =
-    tie.close
-    (tie.spec
-    has-insn-requires
-    padded-requires
-    slice-aggregate-has-insn
-    has-insn-requires-2
-    returns
-    returns-2)
+    tie.close (tie.spec has-insn-requires (search needs) (search needs) has-insn-requires-2
+    (λ c. search needs) returns-2)

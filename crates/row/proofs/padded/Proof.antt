@@ -16,24 +16,6 @@ Inv-loop row whole₀ n₀ whole n = (length whole ≡ 49) × ((k : ℕ) → k <
 abbrev μ-loop : tie.MeasureT-loop
 μ-loop row whole₀ n₀ whole n = 49 - n
 
-loop-holds : tie.Need-loop-holds Inv-loop μ-loop
-loop-holds c = search needs
-
-number-requires : tie.Need-number-requires Inv-loop μ-loop
-number-requires c κs = search needs
-
-mul-whole : tie.Need-mul-whole Inv-loop μ-loop
-mul-whole c = search needs
-
-array-write-whole : tie.Need-array-write-whole Inv-loop μ-loop
-array-write-whole c = search needs
-
-add-n : tie.Need-add-n Inv-loop μ-loop
-add-n c = search needs
-
-loop-less : tie.Need-loop-less Inv-loop μ-loop
-loop-less c = search needs
-
 loop-again : tie.Need-loop-again Inv-loop μ-loop
 loop-again c =
     let loop = c .before .before .loop in
@@ -50,15 +32,5 @@ returns c = (c .before .loop .inv .0, λ k below. c .before .loop .inv .1 k (ome
 
 pub padded-spec : {M : Type 1} → statement M
 padded-spec =
-    tie.close
-    (tie.spec
-    Inv-loop
-    μ-loop
-    loop-holds
-    number-requires
-    mul-whole
-    array-write-whole
-    add-n
-    loop-less
-    loop-again
-    returns)
+    tie.close (tie.spec Inv-loop μ-loop (search needs) (search needs) (search needs) (search needs)
+    (search needs) (search needs) loop-again returns)

@@ -18,18 +18,6 @@ four c = c .good .1 .1 .0 .1 .0 .1
 size : (c : lts.Start (put-operand.Asked, put-operand.Learnt) reads.Pre reads.Post) → length (placesRow (c .args .t3)) ≡ 44
 size c = places-size (c .args .t3) (four c)
 
-array-copy-out-a : tie.Need-array-copy-out-a
-array-copy-out-a c = search needs
-
-array-copy-out-b : tie.Need-array-copy-out-b
-array-copy-out-b c = search needs
-
-array-copy-out-c : tie.Need-array-copy-out-c
-array-copy-out-c c = search needs
-
-array-copy-out-d : tie.Need-array-copy-out-d
-array-copy-out-d c = search needs
-
 put-operand-requires : tie.Need-put-operand-requires
 put-operand-requires c κs = let start = c .before .before .before .before .before .before in omega (arith, start .pre, size start)
 
@@ -41,9 +29,6 @@ put-operand-requires-3 c κs = let start = c .before .before .before .before .be
 
 put-operand-requires-4 : tie.Need-put-operand-requires-4
 put-operand-requires-4 c κs = let start = c .before .before .before .before .before .before .before .before .before .before .before .before .before .before .before .before .before .before in omega (arith, start .pre, size start)
-
-same-length : tie.Need-same-length
-same-length c = search needs
 
 returns : tie.Need-returns
 returns c =
@@ -60,15 +45,6 @@ returns c =
 
 pub put-places-spec : {M : Type 1} → statement M
 put-places-spec =
-    tie.close
-    (tie.spec
-    array-copy-out-a
-    array-copy-out-b
-    array-copy-out-c
-    array-copy-out-d
-    put-operand-requires
-    put-operand-requires-2
-    put-operand-requires-3
-    put-operand-requires-4
-    same-length
-    returns)
+    tie.close (tie.spec (search needs) (search needs) (search needs) (search needs)
+    put-operand-requires put-operand-requires-2 put-operand-requires-3 put-operand-requires-4
+    (λ c. search needs) returns)

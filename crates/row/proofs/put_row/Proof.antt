@@ -18,9 +18,6 @@ size c = row-size (c .args .i) (simp length-map at (c .good .1 .0 .1 .1 .1 .1 .1
 put-insn-requires : tie.Need-put-insn-requires
 put-insn-requires c κs = omega (arith, c .before .if1 .taken, size (c .before .before .before))
 
-same-length : tie.Need-same-length
-same-length c = search needs
-
 returns : tie.Need-returns
 returns c =
     let then1 = c .before .before .before .before in
@@ -30,4 +27,4 @@ returns-2 : tie.Need-returns-2
 returns-2 c = no-room (rowOf (c .before .before .args .i)) (omega (arith, c .if1 .left, size (c .before .before)))
 
 pub put-row-spec : {M : Type 1} → statement M
-put-row-spec = tie.close (tie.spec put-insn-requires same-length returns returns-2)
+put-row-spec = tie.close (tie.spec put-insn-requires (λ c. search needs) returns returns-2)

@@ -4,17 +4,8 @@ use Rattle.text.proofs.Writing.{_then_}
 use Rattle.row.proofs.put_three.Statement.{statement}
 use Rattle.row.proofs.put_three.Tie as tie
 
-put-two-requires : tie.Need-put-two-requires
-put-two-requires c κs = search needs
-
-put-number-requires : tie.Need-put-number-requires
-put-number-requires c κs = search needs
-
-same-length : tie.Need-same-length
-same-length c = search needs
-
 returns : tie.Need-returns
 returns c = c .before .before .before .before .before .before .put-two .ensures then c .before .before .put-number .ensures
 
 pub put-three-spec : {M : Type 1} → statement M
-put-three-spec = tie.close (tie.spec put-two-requires put-number-requires same-length returns)
+put-three-spec = tie.close (tie.spec (search needs) (search needs) (λ c. search needs) returns)

@@ -4,17 +4,8 @@ use Rattle.text.proofs.Writing.{_then_}
 use Rattle.row.proofs.put_two.Statement.{statement}
 use Rattle.row.proofs.put_two.Tie as tie
 
-put-number-requires : tie.Need-put-number-requires
-put-number-requires c κs = search needs
-
-put-number-requires-2 : tie.Need-put-number-requires-2
-put-number-requires-2 c κs = search needs
-
-same-length : tie.Need-same-length
-same-length c = search needs
-
 returns : tie.Need-returns
 returns c = c .before .before .before .before .before .before .put-number .ensures then c .before .before .put-number2 .ensures
 
 pub put-two-spec : {M : Type 1} → statement M
-put-two-spec = tie.close (tie.spec put-number-requires put-number-requires-2 same-length returns)
+put-two-spec = tie.close (tie.spec (search needs) (search needs) (λ c. search needs) returns)

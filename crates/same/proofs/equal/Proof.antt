@@ -5,12 +5,6 @@ use Rattle.same.proofs.Tests.{passed, failed}
 use Rattle.same.proofs.equal.Statement.{statement}
 use Rattle.same.proofs.equal.Tie as tie
 
-equal-starts-requires : tie.Need-equal-starts-requires
-equal-starts-requires c κs = search needs
-
-equal-ends-requires : tie.Need-equal-ends-requires
-equal-ends-requires c κs = search needs
-
 returns : tie.Need-returns
 returns c = passed (sym (c .before .before .equal-starts .ensures) ∙ c .before .if1 .taken) (c .equal-ends .ensures)
 
@@ -18,4 +12,4 @@ returns-2 : tie.Need-returns-2
 returns-2 c = failed _ (sym (c .before .equal-starts .ensures) ∙ c .if1 .left)
 
 pub equal-spec : {M : Type 1} → statement M
-equal-spec = tie.close (tie.spec equal-starts-requires equal-ends-requires returns returns-2)
+equal-spec = tie.close (tie.spec (search needs) (search needs) returns returns-2)

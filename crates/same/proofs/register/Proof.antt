@@ -3,11 +3,8 @@ use borrow.Author.Needs.{needs}
 use Rattle.same.proofs.register.Statement.{statement}
 use Rattle.same.proofs.register.Tie as tie
 
-flatten-requires : tie.Need-flatten-requires
-flatten-requires c κs = search needs
-
 returns : tie.Need-returns
 returns c = simp (c .flatten .ensures)
 
 pub register-spec : {M : Type 1} → statement M
-register-spec = tie.close (tie.spec flatten-requires returns)
+register-spec = tie.close (tie.spec (search needs) returns)

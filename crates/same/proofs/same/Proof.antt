@@ -5,12 +5,6 @@ use Rattle.same.proofs.Tests.{passed, failed, equal, unequal}
 use Rattle.same.proofs.same.Statement.{statement}
 use Rattle.same.proofs.same.Tie as tie
 
-same-flow-requires : tie.Need-same-flow-requires
-same-flow-requires c κs = search needs
-
-same-places-requires : tie.Need-same-places-requires
-same-places-requires c κs = search needs
-
 returns : tie.Need-returns
 returns c =
     equal (c .before .before .before .before .before .before .before .before .before .if1 .taken)
@@ -43,12 +37,5 @@ returns-5 c =
 
 pub same-spec : {M : Type 1} → statement M
 same-spec =
-    tie.close
-    (tie.spec
-    same-flow-requires
-    same-places-requires
-    returns
-    returns-2
-    returns-3
-    returns-4
+    tie.close (tie.spec (search needs) (search needs) returns returns-2 returns-3 returns-4
     returns-5)

@@ -6,18 +6,6 @@ use Rattle.same.proofs.Tests.{equal, unequal}
 use Rattle.same.proofs.same_flow.Statement.{statement}
 use Rattle.same.proofs.same_flow.Tie as tie
 
-number-requires : tie.Need-number-requires
-number-requires c κs = search needs
-
-number-requires-2 : tie.Need-number-requires-2
-number-requires-2 c κs = search needs
-
-target-requires : tie.Need-target-requires
-target-requires c κs = search needs
-
-target-requires-2 : tie.Need-target-requires-2
-target-requires-2 c κs = search needs
-
 returns : tie.Need-returns
 returns c =
     equal
@@ -32,11 +20,5 @@ returns-2 c =
 
 pub same-flow-spec : {M : Type 1} → statement M
 same-flow-spec =
-    tie.close
-    (tie.spec
-    number-requires
-    number-requires-2
-    target-requires
-    target-requires-2
-    returns
+    tie.close (tie.spec (search needs) (search needs) (search needs) (search needs) returns
     returns-2)

@@ -10,36 +10,6 @@ use Rattle.same.proofs.Tests.{unequal, failed, last}
 use Rattle.same.proofs.same_place.Statement.{statement}
 use Rattle.same.proofs.same_place.Tie as tie
 
-number-requires : tie.Need-number-requires
-number-requires c κs = search needs
-
-number-requires-2 : tie.Need-number-requires-2
-number-requires-2 c κs = search needs
-
-register-requires : tie.Need-register-requires
-register-requires c κs = search needs
-
-register-requires-2 : tie.Need-register-requires-2
-register-requires-2 c κs = search needs
-
-flatten-requires : tie.Need-flatten-requires
-flatten-requires c κs = search needs
-
-flatten-requires-2 : tie.Need-flatten-requires-2
-flatten-requires-2 c κs = search needs
-
-equal-requires : tie.Need-equal-requires
-equal-requires c κs = search needs
-
-flatten-requires-3 : tie.Need-flatten-requires-3
-flatten-requires-3 c κs = search needs
-
-flatten-requires-4 : tie.Need-flatten-requires-4
-flatten-requires-4 c κs = search needs
-
-equal-starts-requires : tie.Need-equal-starts-requires
-equal-starts-requires c κs = search needs
-
 returns : tie.Need-returns
 returns c =
     let args = c .before .before .before .before .args in
@@ -90,20 +60,6 @@ returns-5 c =
 
 pub same-place-spec : {M : Type 1} → statement M
 same-place-spec =
-    tie.close
-    (tie.spec
-    number-requires
-    number-requires-2
-    register-requires
-    register-requires-2
-    flatten-requires
-    flatten-requires-2
-    equal-requires
-    flatten-requires-3
-    flatten-requires-4
-    equal-starts-requires
-    returns
-    returns-2
-    returns-3
-    returns-4
-    returns-5)
+    tie.close (tie.spec (search needs) (search needs) (search needs) (search needs) (search needs)
+    (search needs) (search needs) (search needs) (search needs) (search needs) returns returns-2
+    returns-3 returns-4 returns-5)

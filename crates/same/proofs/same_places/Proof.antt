@@ -29,42 +29,6 @@ by-four : {r : Bool} (ps qs : List Place) → length ps ≡ 4 → length qs ≡ 
     → r ≡ samePlaces ps qs
 by-four ps qs p q e = e ∙ sym (ap₂ samePlaces (four ps p) (four qs q))
 
-array-copy-out-a0 : tie.Need-array-copy-out-a0
-array-copy-out-a0 c = search needs
-
-array-copy-out-b0 : tie.Need-array-copy-out-b0
-array-copy-out-b0 c = search needs
-
-array-copy-out-a1 : tie.Need-array-copy-out-a1
-array-copy-out-a1 c = search needs
-
-array-copy-out-b1 : tie.Need-array-copy-out-b1
-array-copy-out-b1 c = search needs
-
-array-copy-out-a2 : tie.Need-array-copy-out-a2
-array-copy-out-a2 c = search needs
-
-array-copy-out-b2 : tie.Need-array-copy-out-b2
-array-copy-out-b2 c = search needs
-
-array-copy-out-a3 : tie.Need-array-copy-out-a3
-array-copy-out-a3 c = search needs
-
-array-copy-out-b3 : tie.Need-array-copy-out-b3
-array-copy-out-b3 c = search needs
-
-same-place-requires : tie.Need-same-place-requires
-same-place-requires c κs = search needs
-
-same-place-requires-2 : tie.Need-same-place-requires-2
-same-place-requires-2 c κs = search needs
-
-same-place-requires-3 : tie.Need-same-place-requires-3
-same-place-requires-3 c κs = search needs
-
-same-place-requires-4 : tie.Need-same-place-requires-4
-same-place-requires-4 c κs = search needs
-
 returns : tie.Need-returns
 returns c =
     let start = c .before .before .before .before .before .before .before .before .before .before .before .before .before .before .before in
@@ -97,21 +61,6 @@ returns-4 c =
 
 pub same-places-spec : {M : Type 1} → statement M
 same-places-spec =
-    tie.close
-    (tie.spec
-    array-copy-out-a0
-    array-copy-out-b0
-    array-copy-out-a1
-    array-copy-out-b1
-    array-copy-out-a2
-    array-copy-out-b2
-    array-copy-out-a3
-    array-copy-out-b3
-    same-place-requires
-    same-place-requires-2
-    same-place-requires-3
-    same-place-requires-4
-    returns
-    returns-2
-    returns-3
-    returns-4)
+    tie.close (tie.spec (search needs) (search needs) (search needs) (search needs) (search needs)
+    (search needs) (search needs) (search needs) (search needs) (search needs) (search needs)
+    (search needs) returns returns-2 returns-3 returns-4)

@@ -4,15 +4,6 @@ use borrow.Author.Needs.{needs}
 use Rattle.section.proofs.is_marked.Statement.{statement}
 use Rattle.section.proofs.is_marked.Tie as tie
 
-shared-slice-read-if1 : tie.Need-shared-slice-read-if1
-shared-slice-read-if1 c = search needs
-
-shared-slice-read-if2 : tie.Need-shared-slice-read-if2
-shared-slice-read-if2 c = search needs
-
-shared-slice-read-result : tie.Need-shared-slice-read-result
-shared-slice-read-result c = search needs
-
 returns : tie.Need-returns
 returns c = simp (eq-eqb _ _ (c .before .if2 .taken), eq-eqb _ _ (c .before .before .before .if1 .taken))
 
@@ -24,11 +15,4 @@ returns-3 c = simp (ne-eqb _ _ (c .if1 .left))
 
 pub is-marked-spec : {M : Type 1} → statement M
 is-marked-spec =
-    tie.close
-    (tie.spec
-    shared-slice-read-if1
-    shared-slice-read-if2
-    shared-slice-read-result
-    returns
-    returns-2
-    returns-3)
+    tie.close (tie.spec (search needs) (search needs) (search needs) returns returns-2 returns-3)

@@ -6,9 +6,6 @@ use Rattle.section.proofs.Accepted.{accepted, opens, refuses}
 use Rattle.section.proofs.open.Statement.{statement}
 use Rattle.section.proofs.open.Tie as tie
 
-refusal-requires : tie.Need-refusal-requires
-refusal-requires c κs = search needs
-
 version-requires : tie.Need-version-requires
 version-requires c κs = omega (arith, (accepted _ (sym (c .before .refusal .ensures) ∙ c .if1 .taken)) .long)
 
@@ -38,5 +35,5 @@ returns-2 c =
 
 pub open-spec : {M : Type 1} → statement M
 open-spec =
-    tie.close
-    (tie.spec refusal-requires version-requires base-requires count-requires cast-t8 returns returns-2)
+    tie.close (tie.spec (search needs) version-requires base-requires count-requires cast-t8 returns
+    returns-2)

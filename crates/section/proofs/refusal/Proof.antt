@@ -10,15 +10,9 @@ returns : tie.Need-returns
 unfolding refusalOf
 returns c = simp (lt-ltb _ _ (c .if1 .taken))
 
-is-marked-requires : tie.Need-is-marked-requires
-is-marked-requires c κs = search needs
-
 returns-2 : tie.Need-returns-2
 unfolding refusalOf
 returns-2 c = simp (c .if2 .taken, ← (c .before .is-marked .ensures), le-ltb _ _ (c .before .before .if1 .left))
-
-version-requires : tie.Need-version-requires
-version-requires c κs = search needs
 
 returns-3 : tie.Need-returns-3
 unfolding refusalOf
@@ -38,17 +32,7 @@ words-refusal-requires c κs = (
   sym (c .before .version .ensures) ∙ c .if3 .left,
 )
 
-returns-4 : tie.Need-returns-4
-returns-4 c = search needs
-
 pub refusal-spec : {M : Type 1} → statement M
 refusal-spec =
-    tie.close
-    (tie.spec
-    returns
-    is-marked-requires
-    returns-2
-    version-requires
-    returns-3
-    words-refusal-requires
-    returns-4)
+    tie.close (tie.spec returns (search needs) returns-2 (search needs) returns-3
+    words-refusal-requires (λ c. search needs))

@@ -36,12 +36,6 @@ module _ (s : List ℕ) (o : Opened) (is : o ≡ openedOf s) (place : ℕ) where
       let over : length (placesOf s) ≤ place = omega (arith, count) in
       simp (at-end s over, le-ltb place (length (placesOf s)) over)
 
-cast-if1 : tie.Need-cast-if1
-cast-if1 c = search needs
-
-mul-word-at : tie.Need-mul-word-at
-mul-word-at c = search needs
-
 add-word-at : tie.Need-add-word-at
 add-word-at c =
     let start = c .before .before .before .before in
@@ -52,9 +46,6 @@ word-at-requires c κs =
     let start = c .before .before .before .before in
     held (start .args .bytes .now) (start .args .opened) (start .pre) (start .args .place) (c .before .if1 .taken)
 
-cast-t10 : tie.Need-cast-t10
-cast-t10 c = search needs
-
 mul-t11 : tie.Need-mul-t11
 mul-t11 c =
     let start = c .before .before .before .before .before in
@@ -64,9 +55,6 @@ add-t12 : tie.Need-add-t12
 add-t12 c =
     let start = c .before .before .before .before .before .before in
     record { fits = addressed (start .args .bytes .now) (start .args .opened) (start .pre) (start .args .place) (c .before .before .before .if1 .taken) }
-
-add-t8 : tie.Need-add-t8
-add-t8 c = search needs
 
 returns : tie.Need-returns
 returns c =
@@ -80,15 +68,5 @@ returns-2 c =
 
 pub step-at-spec : {M : Type 1} → statement M
 step-at-spec =
-    tie.close
-    (tie.spec
-    cast-if1
-    mul-word-at
-    add-word-at
-    word-at-requires
-    cast-t10
-    mul-t11
-    add-t12
-    add-t8
-    returns
-    returns-2)
+    tie.close (tie.spec (search needs) (search needs) add-word-at word-at-requires (search needs)
+    mul-t11 add-t12 (search needs) returns returns-2)

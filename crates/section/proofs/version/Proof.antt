@@ -4,14 +4,8 @@ use borrow.Author.Needs.{needs}
 use Rattle.section.proofs.version.Statement.{statement}
 use Rattle.section.proofs.version.Tie as tie
 
-shared-slice-read-result : tie.Need-shared-slice-read-result
-shared-slice-read-result c = search needs
-
 cast-result : tie.Need-cast-result
 cast-result c = omega (arith, c .shared-slice-known .given 3)
-
-shared-slice-read-result-2 : tie.Need-shared-slice-read-result-2
-shared-slice-read-result-2 c = search needs
 
 cast-result-2 : tie.Need-cast-result-2
 cast-result-2 c = omega (arith, c .shared-slice-known2 .given 4)
@@ -22,17 +16,7 @@ mul-result c = omega (arith, c .shared-slice-known2 .given 4)
 add-result : tie.Need-add-result
 add-result c = omega (arith, c .before .shared-slice-known .given 3, c .shared-slice-known2 .given 4)
 
-returns : tie.Need-returns
-returns c = search needs
-
 pub version-spec : {M : Type 1} → statement M
 version-spec =
-    tie.close
-    (tie.spec
-    shared-slice-read-result
-    cast-result
-    shared-slice-read-result-2
-    cast-result-2
-    mul-result
-    add-result
-    returns)
+    tie.close (tie.spec (search needs) cast-result (search needs) cast-result-2 mul-result
+    add-result (λ c. search needs))

@@ -5,9 +5,6 @@ use borrow.Author.Needs.{needs}
 use Rattle.section.proofs.words_refusal.Statement.{statement}
 use Rattle.section.proofs.words_refusal.Tie as tie
 
-sub-if1 : tie.Need-sub-if1
-sub-if1 c = search needs
-
 returns : tie.Need-returns
 unfolding refusalOf
 returns c =
@@ -18,9 +15,6 @@ returns c =
       pre .1,
       le-ltb _ _ (pre .0),
     )
-
-count-requires : tie.Need-count-requires
-count-requires c κs = search needs
 
 returns-2 : tie.Need-returns-2
 unfolding refusalOf
@@ -34,9 +28,6 @@ returns-2 c =
       pre .1,
       le-ltb _ _ (pre .0),
     )
-
-base-requires : tie.Need-base-requires
-base-requires c κs = search needs
 
 returns-3 : tie.Need-returns-3
 unfolding refusalOf
@@ -52,15 +43,6 @@ returns-3 c =
       pre .1,
       le-ltb _ _ (pre .0),
     )
-
-cast-if4 : tie.Need-cast-if4
-cast-if4 c = search needs
-
-mul-if4 : tie.Need-mul-if4
-mul-if4 c = search needs
-
-add-if4 : tie.Need-add-if4
-add-if4 c = search needs
 
 returns-4 : tie.Need-returns-4
 unfolding refusalOf
@@ -96,16 +78,5 @@ returns-5 c =
 
 pub words-refusal-spec : {M : Type 1} → statement M
 words-refusal-spec =
-    tie.close
-    (tie.spec
-    sub-if1
-    returns
-    count-requires
-    returns-2
-    base-requires
-    returns-3
-    cast-if4
-    mul-if4
-    add-if4
-    returns-4
-    returns-5)
+    tie.close (tie.spec (search needs) returns (search needs) returns-2 (search needs) returns-3
+    (search needs) (search needs) (search needs) returns-4 returns-5)

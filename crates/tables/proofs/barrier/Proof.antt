@@ -13,18 +13,6 @@ use Rattle.tables.proofs.Place.{Column, bits, Same, looked-where}
 use Rattle.tables.proofs.barrier.Statement.{statement}
 use Rattle.tables.proofs.barrier.Tie as tie
 
-column-requires : tie.Need-column-requires
-column-requires c κs = search needs
-
-cast-title : tie.Need-cast-title
-cast-title c = search needs
-
-array-read-title : tie.Need-array-read-title
-array-read-title c = search needs
-
-title-requires : tie.Need-title-requires
-title-requires c κs = search needs
-
 abbrev columns : List Column
 columns = bits 4 4 ∷ []
 
@@ -41,4 +29,4 @@ returns c = looked-where A5.hintsAndSimd asked (87 * 2 ^ 20) columns 233 depends
 
 pub barrier-spec : {M : Type 1} → statement M
 barrier-spec =
-    tie.close (tie.spec column-requires cast-title array-read-title title-requires returns)
+    tie.close (tie.spec (search needs) (search needs) (search needs) (search needs) returns)

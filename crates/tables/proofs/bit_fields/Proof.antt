@@ -15,45 +15,6 @@ use Rattle.tables.proofs.Parts.{media-op1}
 use Rattle.tables.proofs.bit_fields.Statement.{statement}
 use Rattle.tables.proofs.bit_fields.Tie as tie
 
-column-requires : tie.Need-column-requires
-column-requires c κs = search needs
-
-mul-place : tie.Need-mul-place
-mul-place c = search needs
-
-column-requires-2 : tie.Need-column-requires-2
-column-requires-2 c κs = search needs
-
-add-place : tie.Need-add-place
-add-place c = search needs
-
-mul-place-2 : tie.Need-mul-place-2
-mul-place-2 c = search needs
-
-is-requires : tie.Need-is-requires
-is-requires c κs = search needs
-
-add-place-2 : tie.Need-add-place-2
-add-place-2 c = search needs
-
-mul-place-3 : tie.Need-mul-place-3
-mul-place-3 c = search needs
-
-is-requires-2 : tie.Need-is-requires-2
-is-requires-2 c κs = search needs
-
-add-place-3 : tie.Need-add-place-3
-add-place-3 c = search needs
-
-cast-title : tie.Need-cast-title
-cast-title c = search needs
-
-array-read-title : tie.Need-array-read-title
-array-read-title c = search needs
-
-title-requires : tie.Need-title-requires
-title-requires c κs = search needs
-
 abbrev columns : List Column
 columns = bits 20 3 ∷ bits 5 3 ∷ is 12 4 15 ∷ is 0 4 15 ∷ []
 
@@ -76,19 +37,6 @@ returns c = looked-where A5.media asked (3 * 2 ^ 23) columns 210 depends tt (c .
 
 pub bit-fields-spec : {M : Type 1} → statement M
 bit-fields-spec =
-    tie.close
-    (tie.spec
-    column-requires
-    mul-place
-    column-requires-2
-    add-place
-    mul-place-2
-    is-requires
-    add-place-2
-    mul-place-3
-    is-requires-2
-    add-place-3
-    cast-title
-    array-read-title
-    title-requires
-    returns)
+    tie.close (tie.spec (search needs) (search needs) (search needs) (search needs) (search needs)
+    (search needs) (search needs) (search needs) (search needs) (search needs) (search needs)
+    (search needs) (search needs) returns)

@@ -15,18 +15,6 @@ use Rattle.tables.proofs.Parts.{both-true}
 use Rattle.tables.proofs.hint.Statement.{statement}
 use Rattle.tables.proofs.hint.Tie as tie
 
-column-requires : tie.Need-column-requires
-column-requires c κs = search needs
-
-cast-title : tie.Need-cast-title
-cast-title c = search needs
-
-array-read-title : tie.Need-array-read-title
-array-read-title c = search needs
-
-title-requires : tie.Need-title-requires
-title-requires c κs = search needs
-
 abbrev columns : List Column
 columns = bits 0 8 ∷ []
 
@@ -45,4 +33,4 @@ unfolding field numberOf A5.msrAndHints
 returns c = looked-where A5.msrAndHints asked (0) columns 103 depends tt (c .before .before .args .w) (simp (c .before .before .pre .0, c .before .before .pre .1)) (c .before .column .ensures .0) (c .title .ensures)
 
 pub hint-spec : {M : Type 1} → statement M
-hint-spec = tie.close (tie.spec column-requires cast-title array-read-title title-requires returns)
+hint-spec = tie.close (tie.spec (search needs) (search needs) (search needs) (search needs) returns)

@@ -17,27 +17,6 @@ use Rattle.tables.proofs.Parts.{kept}
 use Rattle.tables.proofs.immediate.Statement.{statement}
 use Rattle.tables.proofs.immediate.Tie as tie
 
-column-requires : tie.Need-column-requires
-column-requires c κs = search needs
-
-mul-place : tie.Need-mul-place
-mul-place c = search needs
-
-is-requires : tie.Need-is-requires
-is-requires c κs = search needs
-
-add-place : tie.Need-add-place
-add-place c = search needs
-
-cast-title : tie.Need-cast-title
-cast-title c = search needs
-
-array-read-title : tie.Need-array-read-title
-array-read-title c = search needs
-
-title-requires : tie.Need-title-requires
-title-requires c κs = search needs
-
 abbrev columns : List Column
 columns = bits 20 5 ∷ is 16 4 15 ∷ []
 
@@ -57,13 +36,5 @@ returns c = kept (like (field (c .before .before .before .args .w) 20 5) "10x10"
 
 pub immediate-spec : {M : Type 1} → statement M
 immediate-spec =
-    tie.close
-    (tie.spec
-    column-requires
-    mul-place
-    is-requires
-    add-place
-    cast-title
-    array-read-title
-    title-requires
-    returns)
+    tie.close (tie.spec (search needs) (search needs) (search needs) (search needs) (search needs)
+    (search needs) (search needs) returns)

@@ -10,45 +10,6 @@ use Rattle.tables.proofs.Place.{Column, bits, is, Same, then, looked}
 use Rattle.tables.proofs.load_store.Statement.{statement}
 use Rattle.tables.proofs.load_store.Tie as tie
 
-column-requires : tie.Need-column-requires
-column-requires c κs = search needs
-
-mul-place : tie.Need-mul-place
-mul-place c = search needs
-
-column-requires-2 : tie.Need-column-requires-2
-column-requires-2 c κs = search needs
-
-add-place : tie.Need-add-place
-add-place c = search needs
-
-mul-place-2 : tie.Need-mul-place-2
-mul-place-2 c = search needs
-
-column-requires-3 : tie.Need-column-requires-3
-column-requires-3 c κs = search needs
-
-add-place-2 : tie.Need-add-place-2
-add-place-2 c = search needs
-
-mul-place-3 : tie.Need-mul-place-3
-mul-place-3 c = search needs
-
-is-requires : tie.Need-is-requires
-is-requires c κs = search needs
-
-add-place-3 : tie.Need-add-place-3
-add-place-3 c = search needs
-
-cast-title : tie.Need-cast-title
-cast-title c = search needs
-
-array-read-title : tie.Need-array-read-title
-array-read-title c = search needs
-
-title-requires : tie.Need-title-requires
-title-requires c κs = search needs
-
 abbrev columns : List Column
 columns = bits 25 1 ∷ bits 20 5 ∷ bits 4 1 ∷ is 16 4 15 ∷ []
 
@@ -62,19 +23,6 @@ returns c = looked A5.loadStore columns 127 depends tt (c .before .before .befor
 
 pub load-store-spec : {M : Type 1} → statement M
 load-store-spec =
-    tie.close
-    (tie.spec
-    column-requires
-    mul-place
-    column-requires-2
-    add-place
-    mul-place-2
-    column-requires-3
-    add-place-2
-    mul-place-3
-    is-requires
-    add-place-3
-    cast-title
-    array-read-title
-    title-requires
-    returns)
+    tie.close (tie.spec (search needs) (search needs) (search needs) (search needs) (search needs)
+    (search needs) (search needs) (search needs) (search needs) (search needs) (search needs)
+    (search needs) (search needs) returns)

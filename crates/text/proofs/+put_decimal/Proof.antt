@@ -28,12 +28,6 @@ module _ (t : ℕ) where
   abbrev calls : lts.Claims
   calls = (put-byte.Asked, put-byte.Learnt, below-measure, put-decimal.Post)
 
-  cast-put-byte : lts.Need-cast-put-byte calls at-measure put-decimal.Post
-  cast-put-byte c = search needs
-
-  add-put-byte : lts.Need-add-put-byte calls at-measure put-decimal.Post
-  add-put-byte c = search needs
-
   put-byte-requires : lts.Need-put-byte-requires calls at-measure put-decimal.Post
   put-byte-requires c κs = omega (arith, ap length (decimal-one (c .before .before .before .args .n) (omega arith)))
 
@@ -42,25 +36,13 @@ module _ (t : ℕ) where
       let n = c .before .before .before .args .n in
       (omega arith, omega (arith, simp length-append at (ap length (decimal-more n (omega arith) (omega arith)))))
 
-  cast-put-byte-2 : lts.Need-cast-put-byte-2 calls at-measure put-decimal.Post
-  cast-put-byte-2 c = search needs
-
-  add-put-byte-2 : lts.Need-add-put-byte-2 calls at-measure put-decimal.Post
-  add-put-byte-2 c = search needs
-
   put-byte-requires-2 : lts.Need-put-byte-requires-2 calls at-measure put-decimal.Post
   put-byte-requires-2 c κs =
       let n = c .before .before .before .before .before .before .before .args .n in
       omega (arith, simp length-append at (ap length (decimal-more n (omega arith) (omega arith))))
 
-  same-length : lts.Need-same-length calls at-measure put-decimal.Post
-  same-length c = search needs
-
   returns : lts.Need-returns calls at-measure put-decimal.Post
   returns c = rw (decimal-one (c .before .before .before .before .before .before .args .n) (omega arith)) (c .before .before .put-byte .ensures)
-
-  same-length-2 : lts.Need-same-length-2 calls at-measure put-decimal.Post
-  same-length-2 c = search needs
 
   returns-2 : lts.Need-returns-2 calls at-measure put-decimal.Post
   returns-2 c =
@@ -70,17 +52,6 @@ module _ (t : ℕ) where
 
 pub +put-decimal-spec : {M : Type 1} → statement M
 +put-decimal-spec =
-    close μ-put-decimal λ t. lts.spec (calls t)
-    (at-measure t)
-    put-decimal.Post
-    (cast-put-byte t)
-    (add-put-byte t)
-    (put-byte-requires t)
-    (put-decimal-requires t)
-    (cast-put-byte-2 t)
-    (add-put-byte-2 t)
-    (put-byte-requires-2 t)
-    (same-length t)
-    (returns t)
-    (same-length-2 t)
-    (returns-2 t)
+    close μ-put-decimal λ t. lts.spec (calls t) (at-measure t) put-decimal.Post (search needs)
+    (search needs) (put-byte-requires t) (put-decimal-requires t) (search needs) (search needs)
+    (put-byte-requires-2 t) (λ c. search needs) (returns t) (λ c. search needs) (returns-2 t)

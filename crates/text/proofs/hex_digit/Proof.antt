@@ -7,11 +7,8 @@ use Rattle.text.specs.Text.{bytes, hexDigit}
 use Rattle.text.proofs.hex_digit.Statement.{statement}
 use Rattle.text.proofs.hex_digit.Tie as tie
 
-array-read-result : tie.Need-array-read-result
-array-read-result c = search needs
-
 returns : tie.Need-returns
 returns c = eqb→eq _ (hexDigit (c .args .n)) (at-each (λ n. eqb (getD (bytes "0123456789abcdef") n 0) (hexDigit n)) 16 tt (c .args .n) (c .pre))
 
 pub hex-digit-spec : {M : Type 1} → statement M
-hex-digit-spec = tie.close (tie.spec array-read-result returns)
+hex-digit-spec = tie.close (tie.spec (search needs) returns)

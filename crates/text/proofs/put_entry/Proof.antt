@@ -32,52 +32,19 @@ module _ (table : List ℕ) (width n : ℕ) where
       (take-all width (drop start table) (rw length-drop h)
       ∙ sym (take-all (length table - start) (drop start table) (rw length-drop (omega arith))))
 
-mul-start : tie.Need-mul-start
-mul-start c = search needs
-
 returns : tie.Need-returns
 returns c = rw (beyond _ _ _ (c .if1 .taken)) (none _ _)
 
-sub-if2 : tie.Need-sub-if2
-sub-if2 c = search needs
-
-add-end : tie.Need-add-end
-add-end c = search needs
-
-sub-put-word : tie.Need-sub-put-word
-sub-put-word c = search needs
-
-part-put-word-start : tie.Need-part-put-word-start
-part-put-word-start c = search needs
-
-part-put-word-end : tie.Need-part-put-word-end
-part-put-word-end c = search needs
-
 put-word-requires : tie.Need-put-word-requires
 put-word-requires c κs = rw (whole _ _ _) at (c .before .before .before .before .before .before .pre .1)
-
-sub-put-word-2 : tie.Need-sub-put-word-2
-sub-put-word-2 c = search needs
-
-part-put-word-start-2 : tie.Need-part-put-word-start-2
-part-put-word-start-2 c = search needs
-
-part-put-word-end-2 : tie.Need-part-put-word-end-2
-part-put-word-end-2 c = search needs
 
 put-word-requires-2 : tie.Need-put-word-requires-2
 put-word-requires-2 c κs =
     let start = c .before .before .before .before .before .before in
     rw (short (start .args .table .now) (start .args .width) (start .args .n) (omega arith)) at (start .pre .1)
 
-same-length : tie.Need-same-length
-same-length c = search needs
-
 returns-2 : tie.Need-returns-2
 returns-2 c = rw (whole _ _ _) (c .before .before .put-word .ensures)
-
-same-length-2 : tie.Need-same-length-2
-same-length-2 c = search needs
 
 returns-3 : tie.Need-returns-3
 returns-3 c =
@@ -86,21 +53,6 @@ returns-3 c =
 
 pub put-entry-spec : {M : Type 1} → statement M
 put-entry-spec =
-    tie.close
-    (tie.spec
-    mul-start
-    returns
-    sub-if2
-    add-end
-    sub-put-word
-    part-put-word-start
-    part-put-word-end
-    put-word-requires
-    sub-put-word-2
-    part-put-word-start-2
-    part-put-word-end-2
-    put-word-requires-2
-    same-length
-    returns-2
-    same-length-2
-    returns-3)
+    tie.close (tie.spec (search needs) returns (search needs) (search needs) (search needs)
+    (search needs) (search needs) put-word-requires (search needs) (search needs) (search needs)
+    put-word-requires-2 (λ c. search needs) returns-2 (λ c. search needs) returns-3)

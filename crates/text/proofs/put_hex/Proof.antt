@@ -23,32 +23,11 @@ loop-holds : tie.Need-loop-holds Inv-loop μ-loop
 unfolding hexOf
 loop-holds c = (omega arith, refl, rw (sub-self (c .before .args .digits)) (none _ _))
 
-sub-left : tie.Need-sub-left Inv-loop μ-loop
-sub-left c = search needs
-
-cast-n : tie.Need-cast-n Inv-loop μ-loop
-cast-n c = search needs
-
-mul-n : tie.Need-mul-n Inv-loop μ-loop
-mul-n c = search needs
-
-shr-n : tie.Need-shr-n Inv-loop μ-loop
-shr-n c = search needs
-
-cast-hex-digit : tie.Need-cast-hex-digit Inv-loop μ-loop
-cast-hex-digit c = search needs
-
-hex-digit-requires : tie.Need-hex-digit-requires Inv-loop μ-loop
-hex-digit-requires c κs = search needs
-
 put-byte-requires : tie.Need-put-byte-requires Inv-loop μ-loop
 put-byte-requires c κs =
     let now = c .before .before .before .loop in
     let given = c .before .before .before .before .before .args in
     omega (arith, hex-size (given .digits - now .left) (given .n / 2 ^ (4 * now .left)), hex-size (given .digits) (given .n))
-
-loop-less : tie.Need-loop-less Inv-loop μ-loop
-loop-less c = search needs
 
 loop-again : tie.Need-loop-again Inv-loop μ-loop
 loop-again c =
@@ -70,19 +49,6 @@ returns c =
 
 pub put-hex-spec : {M : Type 1} → statement M
 put-hex-spec =
-    tie.close
-    (tie.spec
-    Inv-loop
-    μ-loop
-    loop-holds
-    sub-left
-    cast-n
-    mul-n
-    shr-n
-    cast-hex-digit
-    hex-digit-requires
-    put-byte-requires
-    loop-less
-    loop-again
-    same-length
-    returns)
+    tie.close (tie.spec Inv-loop μ-loop loop-holds (search needs) (search needs) (search needs)
+    (search needs) (search needs) (search needs) put-byte-requires (search needs) loop-again
+    same-length returns)

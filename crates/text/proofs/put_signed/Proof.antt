@@ -67,16 +67,10 @@ put-decimal-requires-2 c κs =
     let a = above (c .before .before .before .fits .v) (c .before .if1 .left) in
     rw (a .0) (rw (a .1) at (c .before .before .before .pre))
 
-same-length : tie.Need-same-length
-same-length c = search needs
-
 returns : tie.Need-returns
 returns c =
     let asked = c .before .before .before in
     rw (minus asked .1) (asked .before .before .before .put-byte .ensures then rw (minus asked .0) at (c .before .before .put-decimal .ensures))
-
-same-length-2 : tie.Need-same-length-2
-same-length-2 c = search needs
 
 returns-2 : tie.Need-returns-2
 returns-2 c =
@@ -86,15 +80,6 @@ returns-2 c =
 
 pub put-signed-spec : {M : Type 1} → statement M
 put-signed-spec =
-    tie.close
-    (tie.spec
-    put-byte-requires
-    cast-put-decimal
-    add-put-decimal
-    put-decimal-requires
-    cast-put-decimal-2
-    put-decimal-requires-2
-    same-length
-    returns
-    same-length-2
+    tie.close (tie.spec put-byte-requires cast-put-decimal add-put-decimal put-decimal-requires
+    cast-put-decimal-2 put-decimal-requires-2 (λ c. search needs) returns (λ c. search needs)
     returns-2)

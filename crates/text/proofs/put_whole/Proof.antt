@@ -5,12 +5,6 @@ use Rattle.text.proofs.Settled.{fits, no-room}
 use Rattle.text.proofs.put_whole.Statement.{statement}
 use Rattle.text.proofs.put_whole.Tie as tie
 
-put-requires : tie.Need-put-requires
-put-requires c κs = search needs
-
-same-length : tie.Need-same-length
-same-length c = search needs
-
 returns : tie.Need-returns
 returns c = fits (c .before .before .before .before .if1 .taken) (c .before .before .put .ensures)
 
@@ -18,4 +12,4 @@ returns-2 : tie.Need-returns-2
 returns-2 c = no-room (c .before .before .before .args .text .now) (c .if1 .left)
 
 pub put-whole-spec : {M : Type 1} → statement M
-put-whole-spec = tie.close (tie.spec put-requires same-length returns returns-2)
+put-whole-spec = tie.close (tie.spec (search needs) (λ c. search needs) returns returns-2)

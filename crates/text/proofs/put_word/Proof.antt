@@ -45,9 +45,6 @@ abbrev μ-loop : tie.MeasureT-loop
 loop-holds : tie.Need-loop-holds Inv-loop μ-loop
 loop-holds c = (omega arith, refl, refl, record { ends = refl; holds = nothing _ _ })
 
-shared-slice-read-b : tie.Need-shared-slice-read-b Inv-loop μ-loop
-shared-slice-read-b c = search needs
-
 add-result : tie.Need-add-result Inv-loop μ-loop
 add-result c =
     let now = c .before .before .before .loop in
@@ -76,12 +73,6 @@ place c =
 slice-write-out : tie.Need-slice-write-out Inv-loop μ-loop
 slice-write-out c = place c
 
-add-i : tie.Need-add-i Inv-loop μ-loop
-add-i c = search needs
-
-loop-less : tie.Need-loop-less Inv-loop μ-loop
-loop-less c = search needs
-
 loop-again : tie.Need-loop-again Inv-loop μ-loop
 loop-again c =
     let now = c .before .before .before .loop in (
@@ -102,20 +93,6 @@ returns-2 c = rw (at-end _ (c .before .loop .i) (c .before .loop .inv .2) (omega
 
 pub put-word-spec : {M : Type 1} → statement M
 put-word-spec =
-    tie.close
-    (tie.spec
-    Inv-loop
-    μ-loop
-    loop-holds
-    shared-slice-read-b
-    add-result
-    same-length
-    returns
-    add-out
-    slice-write-out
-    add-i
-    loop-less
-    loop-again
-    add-result-2
-    same-length-2
+    tie.close (tie.spec Inv-loop μ-loop loop-holds (search needs) add-result same-length returns
+    add-out slice-write-out (search needs) (search needs) loop-again add-result-2 same-length-2
     returns-2)

@@ -4,24 +4,6 @@ use borrow.Author.Tests.{ne-eqb}
 use Rattle.transfer_words.proofs.block_word.Statement.{statement}
 use Rattle.transfer_words.proofs.block_word.Tie as tie
 
-number-at-requires : tie.Need-number-at-requires
-number-at-requires c κs = search needs
-
-laid-block-requires : tie.Need-laid-block-requires
-laid-block-requires c κs = search needs
-
-number-at-requires-2 : tie.Need-number-at-requires-2
-number-at-requires-2 c κs = search needs
-
-laid-block-requires-2 : tie.Need-laid-block-requires-2
-laid-block-requires-2 c κs = search needs
-
-past-requires : tie.Need-past-requires
-past-requires c κs = search needs
-
-plain-block-requires : tie.Need-plain-block-requires
-plain-block-requires c κs = search needs
-
 returns : tie.Need-returns
 returns c =
     simp (
@@ -49,14 +31,5 @@ returns-3 c =
 
 pub block-word-spec : {M : Type 1} → statement M
 block-word-spec =
-    tie.close
-    (tie.spec
-    number-at-requires
-    laid-block-requires
-    number-at-requires-2
-    laid-block-requires-2
-    past-requires
-    plain-block-requires
-    returns
-    returns-2
-    returns-3)
+    tie.close (tie.spec (search needs) (search needs) (search needs) (search needs) (search needs)
+    (search needs) returns returns-2 returns-3)

@@ -3,14 +3,8 @@ use borrow.Author.Needs.{needs}
 use Rattle.transfer_words.proofs.blx_word.Statement.{statement}
 use Rattle.transfer_words.proofs.blx_word.Tie as tie
 
-offset-requires : tie.Need-offset-requires
-offset-requires c κs = search needs
-
-laid-branch-requires : tie.Need-laid-branch-requires
-laid-branch-requires c κs = search needs
-
 returns : tie.Need-returns
 returns c = simp (c .laid-branch .ensures, c .before .offset .ensures)
 
 pub blx-word-spec : {M : Type 1} → statement M
-blx-word-spec = tie.close (tie.spec offset-requires laid-branch-requires returns)
+blx-word-spec = tie.close (tie.spec (search needs) (search needs) returns)

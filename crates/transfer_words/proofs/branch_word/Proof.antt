@@ -4,12 +4,6 @@ use borrow.Author.Tests.{ne-eqb}
 use Rattle.transfer_words.proofs.branch_word.Statement.{statement}
 use Rattle.transfer_words.proofs.branch_word.Tie as tie
 
-laid-branch-requires : tie.Need-laid-branch-requires
-laid-branch-requires c κs = search needs
-
-laid-branch-requires-2 : tie.Need-laid-branch-requires-2
-laid-branch-requires-2 c κs = search needs
-
 returns : tie.Need-returns
 returns c = simp (c .laid-branch .ensures, c .before .if1 .taken)
 
@@ -17,5 +11,4 @@ returns-2 : tie.Need-returns-2
 returns-2 c = simp (c .laid-branch2 .ensures, ne-eqb _ _ (c .before .if1 .left))
 
 pub branch-word-spec : {M : Type 1} → statement M
-branch-word-spec =
-    tie.close (tie.spec laid-branch-requires laid-branch-requires-2 returns returns-2)
+branch-word-spec = tie.close (tie.spec (search needs) (search needs) returns returns-2)

@@ -3,18 +3,6 @@ use borrow.Author.Needs.{needs}
 use Rattle.transfer_words.proofs.multiple.Statement.{statement}
 use Rattle.transfer_words.proofs.multiple.Tie as tie
 
-number-at-requires : tie.Need-number-at-requires
-number-at-requires c κs = search needs
-
-register-at-requires : tie.Need-register-at-requires
-register-at-requires c κs = search needs
-
-written-back-requires : tie.Need-written-back-requires
-written-back-requires c κs = search needs
-
-laid-block-requires : tie.Need-laid-block-requires
-laid-block-requires c κs = search needs
-
 returns : tie.Need-returns
 returns c =
     simp (
@@ -26,10 +14,4 @@ returns c =
 
 pub multiple-spec : {M : Type 1} → statement M
 multiple-spec =
-    tie.close
-    (tie.spec
-    number-at-requires
-    register-at-requires
-    written-back-requires
-    laid-block-requires
-    returns)
+    tie.close (tie.spec (search needs) (search needs) (search needs) (search needs) returns)

@@ -7,15 +7,6 @@ use Rattle.home.specs.WordTransfer.{offsetOf}
 use Rattle.transfer_words.proofs.offset_of.Statement.{statement}
 use Rattle.transfer_words.proofs.offset_of.Tie as tie
 
-add-from : tie.Need-add-from
-add-from c = search needs
-
-sub-result : tie.Need-sub-result
-sub-result c = search needs
-
-add-result : tie.Need-add-result
-add-result c = search needs
-
 -- what is added and taken away in 32 bits, and cut to them, is the distance in 32 bits
 wrapped : (addr to : ℕ) → (to % 2 ^ 32 + (2 ^ 32 - (addr % 2 ^ 32 + 8) % 2 ^ 32)) % 2 ^ 32 ≡ offsetOf addr to
 unfolding offsetOf
@@ -25,4 +16,4 @@ returns : tie.Need-returns
 returns c = wrapped (c .args .addr) (c .args .to)
 
 pub offset-of-spec : {M : Type 1} → statement M
-offset-of-spec = tie.close (tie.spec add-from sub-result add-result returns)
+offset-of-spec = tie.close (tie.spec (search needs) (search needs) (search needs) returns)

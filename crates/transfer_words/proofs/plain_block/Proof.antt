@@ -4,12 +4,6 @@ use borrow.Author.Tests.{le-ltb, lt-ltb}
 use Rattle.transfer_words.proofs.plain_block.Statement.{statement}
 use Rattle.transfer_words.proofs.plain_block.Tie as tie
 
-multiple-requires : tie.Need-multiple-requires
-multiple-requires c κs = search needs
-
-multiple-requires-2 : tie.Need-multiple-requires-2
-multiple-requires-2 c κs = search needs
-
 returns : tie.Need-returns
 returns c = simp (c .multiple .ensures, lt-ltb _ _ (c .before .if1 .taken))
 
@@ -17,4 +11,4 @@ returns-2 : tie.Need-returns-2
 returns-2 c = simp (c .multiple2 .ensures, le-ltb _ _ (c .before .if1 .left))
 
 pub plain-block-spec : {M : Type 1} → statement M
-plain-block-spec = tie.close (tie.spec multiple-requires multiple-requires-2 returns returns-2)
+plain-block-spec = tie.close (tie.spec (search needs) (search needs) returns returns-2)

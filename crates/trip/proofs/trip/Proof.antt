@@ -5,18 +5,6 @@ use Rattle.trip.proofs.From.{from}
 use Rattle.trip.proofs.trip.Statement.{statement}
 use Rattle.trip.proofs.trip.Tie as tie
 
-decode-requires : tie.Need-decode-requires
-decode-requires c κs = search needs
-
-encode-requires : tie.Need-encode-requires
-encode-requires c κs = search needs
-
-packed-requires : tie.Need-packed-requires
-packed-requires c κs = search needs
-
-pack-requires : tie.Need-pack-requires
-pack-requires c κs = search needs
-
 returns : tie.Need-returns
 returns c =
     from
@@ -27,4 +15,6 @@ returns-2 : tie.Need-returns-2
 returns-2 c = from (c .before .before .before .decode .ensures) (simp (c .pack .ensures, ne-eqb _ _ (c .before .if1 .left)))
 
 pub trip-spec : {M : Type 1} → statement M
-trip-spec = tie.close (tie.spec decode-requires encode-requires packed-requires pack-requires returns returns-2)
+trip-spec =
+    tie.close (tie.spec (search needs) (search needs) (search needs) (search needs) returns
+    returns-2)

@@ -14,11 +14,8 @@ read : (n : ℕ) → n < 2 ^ 63 → toZ w64 (2 ^ 64 - 1 - n) ≡ negsuc n
 read n h =
     ap (toZ w64) {x = 2 ^ 64 - 1 - n} {y = ofZ w64 (negsuc n)} (omega arith) ∙ toZ-ofZ w64 (negsuc n) (record { sfits = h })
 
-cast-result : tie.Need-cast-result
-cast-result c = search needs
-
 returns : tie.Need-returns
 returns c = read (c .args .n) (c .pre)
 
 pub complement-spec : {M : Type 1} → statement M
-complement-spec = tie.close (tie.spec cast-result returns)
+complement-spec = tie.close (tie.spec (search needs) returns)

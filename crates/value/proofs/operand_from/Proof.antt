@@ -3,14 +3,8 @@ use borrow.Author.Needs.{needs}
 use Rattle.value.proofs.operand_from.Statement.{statement}
 use Rattle.value.proofs.operand_from.Tie as tie
 
-number-requires : tie.Need-number-requires
-number-requires c κs = search needs
-
-operand-as-requires : tie.Need-operand-as-requires
-operand-as-requires c κs = search needs
-
 returns : tie.Need-returns
 returns c = simp (c .operand-as .ensures, c .before .number .ensures)
 
 pub operand-from-spec : {M : Type 1} → statement M
-operand-from-spec = tie.close (tie.spec number-requires operand-as-requires returns)
+operand-from-spec = tie.close (tie.spec (search needs) (search needs) returns)

@@ -3,11 +3,8 @@ use borrow.Author.Needs.{needs}
 use Rattle.value.proofs.reg_from.Statement.{statement}
 use Rattle.value.proofs.reg_from.Tie as tie
 
-byte-requires : tie.Need-byte-requires
-byte-requires c κs = search needs
-
 returns : tie.Need-returns
 returns c = simp (c .byte .ensures)
 
 pub reg-from-spec : {M : Type 1} → statement M
-reg-from-spec = tie.close (tie.spec byte-requires returns)
+reg-from-spec = tie.close (tie.spec (search needs) returns)

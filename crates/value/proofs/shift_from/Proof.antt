@@ -3,14 +3,8 @@ use borrow.Author.Needs.{needs}
 use Rattle.value.proofs.shift_from.Statement.{statement}
 use Rattle.value.proofs.shift_from.Tie as tie
 
-number-requires : tie.Need-number-requires
-number-requires c κs = search needs
-
-shift-of-requires : tie.Need-shift-of-requires
-shift-of-requires c κs = search needs
-
 returns : tie.Need-returns
 returns c = simp (c .shift-of .ensures, c .before .number .ensures)
 
 pub shift-from-spec : {M : Type 1} → statement M
-shift-from-spec = tie.close (tie.spec number-requires shift-of-requires returns)
+shift-from-spec = tie.close (tie.spec (search needs) (search needs) returns)

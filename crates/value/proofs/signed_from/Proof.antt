@@ -8,21 +8,6 @@ use borrow.Author.Needs.{needs}
 use Rattle.value.proofs.signed_from.Statement.{statement}
 use Rattle.value.proofs.signed_from.Tie as tie
 
-add-number : tie.Need-add-number
-add-number c = search needs
-
-number-requires : tie.Need-number-requires
-number-requires c κs = search needs
-
-mark-requires : tie.Need-mark-requires
-mark-requires c κs = search needs
-
-complement-requires : tie.Need-complement-requires
-complement-requires c κs = search needs
-
-cast-result : tie.Need-cast-result
-cast-result c = search needs
-
 returns : tie.Need-returns
 returns c = simp (← c .before .before .mark .ensures, c .before .if1 .taken, ← c .before .before .before .number .ensures)
     (toZ-ofZ w64 (c .complement .result) (record { sfits = c .complement .ok }) ∙ c .complement .ensures)
@@ -33,12 +18,5 @@ returns-2 c = simp (← c .before .mark .ensures, c .if1 .left, ← c .before .b
 
 pub signed-from-spec : {M : Type 1} → statement M
 signed-from-spec =
-    tie.close
-    (tie.spec
-    add-number
-    number-requires
-    mark-requires
-    complement-requires
-    cast-result
-    returns
-    returns-2)
+    tie.close (tie.spec (search needs) (search needs) (search needs) (search needs) (search needs)
+    returns returns-2)

@@ -3,14 +3,8 @@ use borrow.Author.Needs.{needs}
 use Rattle.value.proofs.status_from.Statement.{statement}
 use Rattle.value.proofs.status_from.Tie as tie
 
-number-requires : tie.Need-number-requires
-number-requires c κs = search needs
-
-status-of-requires : tie.Need-status-of-requires
-status-of-requires c κs = search needs
-
 returns : tie.Need-returns
 returns c = simp (c .status-of .ensures, c .before .number .ensures)
 
 pub status-from-spec : {M : Type 1} → statement M
-status-from-spec = tie.close (tie.spec number-requires status-of-requires returns)
+status-from-spec = tie.close (tie.spec (search needs) (search needs) returns)

@@ -10,18 +10,6 @@ use Rattle.word.specs.Signed.{minus}
 use Rattle.word.proofs.as_signed.Statement.{statement}
 use Rattle.word.proofs.as_signed.Tie as tie
 
-positive-requires : tie.Need-positive-requires
-positive-requires c κs = search needs
-
-sub-negative : tie.Need-sub-negative
-sub-negative c = search needs
-
-add-negative : tie.Need-add-negative
-add-negative c = search needs
-
-negative-requires : tie.Need-negative-requires
-negative-requires c κs = search needs
-
 -- the number of 2 ^ 32 - v, as the code sums it
 complement : (v : ℕ) → v < 2 ^ 32 → minus (4294967295 - v + 1) ≡ minus (2 ^ 32 - v)
 complement v h = ap minus {x = 4294967295 - v + 1} {y = 2 ^ 32 - v} (omega arith)
@@ -38,5 +26,5 @@ returns-2 c =
 
 pub as-signed-spec : {M : Type 1} → statement M
 as-signed-spec =
-    tie.close
-    (tie.spec positive-requires sub-negative add-negative negative-requires returns returns-2)
+    tie.close (tie.spec (search needs) (search needs) (search needs) (search needs) returns
+    returns-2)

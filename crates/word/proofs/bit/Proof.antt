@@ -4,12 +4,9 @@ use Rattle.word.specs.Field.{field}
 use Rattle.word.proofs.bit.Statement.{statement}
 use Rattle.word.proofs.bit.Tie as tie
 
-shr-result : tie.Need-shr-result
-shr-result c = search needs
-
 returns : tie.Need-returns
 unfolding field
 returns c = search needs
 
 pub bit-spec : {M : Type 1} → statement M
-bit-spec = tie.close (tie.spec shr-result returns)
+bit-spec = tie.close (tie.spec (search needs) returns)

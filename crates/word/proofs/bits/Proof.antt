@@ -8,18 +8,6 @@ use Rattle.word.proofs.One.{shifted-one}
 use Rattle.word.proofs.bits.Statement.{statement}
 use Rattle.word.proofs.bits.Tie as tie
 
-shr-result : tie.Need-shr-result
-shr-result c = search needs
-
-sub-result : tie.Need-sub-result
-sub-result c = search needs
-
-add-result : tie.Need-add-result
-add-result c = search needs
-
-shl-result : tie.Need-shl-result
-shl-result c = search needs
-
 rem-result : tie.Need-rem-result
 rem-result c = rw (shifted-one (c .args .hi - c .args .lo + 1) (omega arith)) (pow-pos _)
 
@@ -28,4 +16,6 @@ unfolding field
 returns c = rw (shifted-one (c .args .hi - c .args .lo + 1) (omega arith))
 
 pub bits-spec : {M : Type 1} → statement M
-bits-spec = tie.close (tie.spec shr-result sub-result add-result shl-result rem-result returns)
+bits-spec =
+    tie.close (tie.spec (search needs) (search needs) (search needs) (search needs) rem-result
+    returns)

@@ -11,18 +11,6 @@ use Rattle.word.proofs.One.{shifted-one}
 use Rattle.word.proofs.bits_then.Statement.{statement}
 use Rattle.word.proofs.bits_then.Tie as tie
 
-bits-requires : tie.Need-bits-requires
-bits-requires c κs = search needs
-
-sub-result : tie.Need-sub-result
-sub-result c = search needs
-
-add-result : tie.Need-add-result
-add-result c = search needs
-
-shl-result : tie.Need-shl-result
-shl-result c = search needs
-
 -- the upper bits, moved up, and the whole
 module _ (c : tie.After-bits) where
   abbrev j : ℕ
@@ -40,9 +28,6 @@ module _ (c : tie.After-bits) where
 mul-result : tie.Need-mul-result
 mul-result c = record { fits = rw (moved c) (omega (arith, within c)) }
 
-bits-requires-2 : tie.Need-bits-requires-2
-bits-requires-2 c κs = search needs
-
 add-result-2 : tie.Need-add-result-2
 add-result-2 c = record { fits = rw (moved (c .before), c .bits2 .ensures) (omega (arith, within (c .before))) }
 
@@ -51,5 +36,5 @@ returns c = rw (moved (c .before), c .bits2 .ensures)
 
 pub bits-then-spec : {M : Type 1} → statement M
 bits-then-spec =
-    tie.close
-    (tie.spec bits-requires sub-result add-result shl-result mul-result bits-requires-2 add-result-2 returns)
+    tie.close (tie.spec (search needs) (search needs) (search needs) (search needs) mul-result
+    (search needs) add-result-2 returns)

@@ -20,30 +20,9 @@ abbrev μ-loop : tie.MeasureT-loop
 loop-holds : tie.Need-loop-holds Inv-loop μ-loop
 loop-holds c = (omega arith, rw (drop-of-length-le (c .args .widths .now) (le-refl _)))
 
-sub-n : tie.Need-sub-n Inv-loop μ-loop
-sub-n c = search needs
-
-mul-above : tie.Need-mul-above Inv-loop μ-loop
-mul-above c = search needs
-
-shared-slice-read-above : tie.Need-shared-slice-read-above Inv-loop μ-loop
-shared-slice-read-above c = search needs
-
 shl-above : tie.Need-shl-above Inv-loop μ-loop
 shl-above c =
     omega (arith, narrow-at (c .before .before .before .args .widths .now) (c .before .before .before .pre .1) (c .before .before .loop .n - 1))
-
-mul-w : tie.Need-mul-w Inv-loop μ-loop
-mul-w c = search needs
-
-shared-slice-read-w : tie.Need-shared-slice-read-w Inv-loop μ-loop
-shared-slice-read-w c = search needs
-
-add-w : tie.Need-add-w Inv-loop μ-loop
-add-w c = search needs
-
-loop-less : tie.Need-loop-less Inv-loop μ-loop
-loop-less c = search needs
 
 loop-again : tie.Need-loop-again Inv-loop μ-loop
 loop-again c =
@@ -55,27 +34,11 @@ loop-again c =
           (one-more (given .args .widths .now) (given .args .values .now) (now .n - 1) (now .w) (omega arith) (omega arith) (rw next (now .inv .1))),
     )
 
-cast-result : tie.Need-cast-result Inv-loop μ-loop
-cast-result c = search needs
-
 returns : tie.Need-returns Inv-loop μ-loop
 returns c = let none : c .before .loop .n ≡ 0 = omega arith in simp none at (c .before .loop .inv .1)
 
 pub join-spec : {M : Type 1} → statement M
 join-spec =
-    tie.close
-    (tie.spec
-    Inv-loop
-    μ-loop
-    loop-holds
-    sub-n
-    mul-above
-    shared-slice-read-above
-    shl-above
-    mul-w
-    shared-slice-read-w
-    add-w
-    loop-less
-    loop-again
-    cast-result
+    tie.close (tie.spec Inv-loop μ-loop loop-holds (search needs) (search needs) (search needs)
+    shl-above (search needs) (search needs) (search needs) (search needs) loop-again (search needs)
     returns)

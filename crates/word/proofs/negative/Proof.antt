@@ -19,9 +19,6 @@ fits : (v : ℕ) → v < 2 ^ 32 → SFits w64 (negℤ (pos v))
 fits zero h = record { sfits = omega arith }
 fits (suc v) h = record { sfits = omega arith }
 
-cast-result : tie.Need-cast-result
-cast-result c = search needs
-
 sub-result : tie.Need-sub-result
 sub-result c = rw (toZ-pos w64 (c .args .v) (omega arith), from-zero (c .args .v)) (fits (c .args .v) (omega arith))
 
@@ -29,4 +26,4 @@ returns : tie.Need-returns
 returns c = rw (toZ-pos w64 (c .args .v) (omega arith), from-zero (c .args .v)) (toZ-ofZ w64 _ (fits (c .args .v) (omega arith)))
 
 pub negative-spec : {M : Type 1} → statement M
-negative-spec = tie.close (tie.spec cast-result sub-result returns)
+negative-spec = tie.close (tie.spec (search needs) sub-result returns)

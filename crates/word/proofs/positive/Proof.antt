@@ -6,11 +6,8 @@ use mir.ValLaws.{toZ-pos}
 use Rattle.word.proofs.positive.Statement.{statement}
 use Rattle.word.proofs.positive.Tie as tie
 
-cast-result : tie.Need-cast-result
-cast-result c = search needs
-
 returns : tie.Need-returns
 returns c = toZ-pos w64 (c .args .v) (omega arith)
 
 pub positive-spec : {M : Type 1} → statement M
-positive-spec = tie.close (tie.spec cast-result returns)
+positive-spec = tie.close (tie.spec (search needs) returns)

@@ -19,12 +19,6 @@ halves (suc n) h = rw sub-one (omega arith)
 half-le : (n : ℕ) → n < 32 → 2 ^ (n - 1) ≤ 2147483648
 half-le n h = pow-mono {j = 31} (omega arith)
 
-sub-half : tie.Need-sub-half
-sub-half c = search needs
-
-shl-half : tie.Need-shl-half
-shl-half c = search needs
-
 sub-result : tie.Need-sub-result
 sub-result c = rw (shifted-one (c .before .args .n - 1) (omega arith)) (half-le (c .before .args .n) (omega arith))
 
@@ -59,4 +53,6 @@ returns-2 c =
     (widened _ _ (c .before .pre .0) (c .before .pre .1) (c .before .pre .2) _ (weighs c) (c .if1 .left))
 
 pub sext-spec : {M : Type 1} → statement M
-sext-spec = tie.close (tie.spec sub-half shl-half sub-result add-result add-result-2 returns returns-2)
+sext-spec =
+    tie.close (tie.spec (search needs) (search needs) sub-result add-result add-result-2 returns
+    returns-2)

@@ -4,12 +4,6 @@ use borrow.Author.Tests.{ne-eqb}
 use Rattle.words.proofs.address_word.Statement.{statement}
 use Rattle.words.proofs.address_word.Tie as tie
 
-blx-word-requires : tie.Need-blx-word-requires
-blx-word-requires c κs = search needs
-
-branch-word-requires : tie.Need-branch-word-requires
-branch-word-requires c κs = search needs
-
 returns : tie.Need-returns
 returns c = simp (c .blx-word .ensures, c .before .if1 .taken)
 
@@ -17,4 +11,4 @@ returns-2 : tie.Need-returns-2
 returns-2 c = simp (c .branch-word .ensures, ne-eqb _ _ (c .before .if1 .left))
 
 pub address-word-spec : {M : Type 1} → statement M
-address-word-spec = tie.close (tie.spec blx-word-requires branch-word-requires returns returns-2)
+address-word-spec = tie.close (tie.spec (search needs) (search needs) returns returns-2)

@@ -4,18 +4,6 @@ use borrow.Author.Tests.{ne-eqb}
 use Rattle.words.proofs.status_word.Statement.{statement}
 use Rattle.words.proofs.status_word.Tie as tie
 
-is-at-requires : tie.Need-is-at-requires
-is-at-requires c κs = search needs
-
-msr-immediate-word-requires : tie.Need-msr-immediate-word-requires
-msr-immediate-word-requires c κs = search needs
-
-misc-word-requires : tie.Need-misc-word-requires
-misc-word-requires c κs = search needs
-
-misc-word-requires-2 : tie.Need-misc-word-requires-2
-misc-word-requires-2 c κs = search needs
-
 returns : tie.Need-returns
 returns c =
     simp (
@@ -39,12 +27,5 @@ returns-3 c = simp (c .misc-word2 .ensures, ne-eqb _ _ (c .before .if1 .left))
 
 pub status-word-spec : {M : Type 1} → statement M
 status-word-spec =
-    tie.close
-    (tie.spec
-    is-at-requires
-    msr-immediate-word-requires
-    misc-word-requires
-    misc-word-requires-2
-    returns
-    returns-2
-    returns-3)
+    tie.close (tie.spec (search needs) (search needs) (search needs) (search needs) returns
+    returns-2 returns-3)

@@ -8,99 +8,42 @@ use Rattle.dp_words.proofs.Chosen.{by}
 use Rattle.words.proofs.word_of.Statement.{statement}
 use Rattle.words.proofs.word_of.Tie as tie
 
-is-at-requires : tie.Need-is-at-requires
-is-at-requires c κs = search needs
-
-address-word-requires : tie.Need-address-word-requires
-address-word-requires c κs = search needs
-
 returns : tie.Need-returns
 returns c = by (c .address-word .ensures) (named-address _ (sym (c .before .before .is-at .ensures) ∙ c .before .if1 .taken))
-
-dp-word-requires : tie.Need-dp-word-requires
-dp-word-requires c κs = search needs
 
 returns-2 : tie.Need-returns-2
 returns-2 c = by (c .dp-word .ensures) (named-dp (c .before .before .before .before .args .i) (sym (c .before .before .before .is-at .ensures) ∙ c .before .before .if1 .left) (between 0 37 (c .before .before .before .before .args .i .name) (omega arith) (omega arith)))
 
-status-word-requires : tie.Need-status-word-requires
-status-word-requires c κs = search needs
-
 returns-3 : tie.Need-returns-3
 returns-3 c = by (c .status-word .ensures) (named-status (c .before .before .before .before .before .args .i) (sym (c .before .before .before .before .is-at .ensures) ∙ c .before .before .before .if1 .left) (between 38 48 (c .before .before .before .before .before .args .i .name) (omega arith) (omega arith)))
-
-extra-word-requires : tie.Need-extra-word-requires
-extra-word-requires c κs = search needs
 
 returns-4 : tie.Need-returns-4
 returns-4 c = by (c .extra-word .ensures) (named-extra (c .before .before .before .before .before .before .args .i) (sym (c .before .before .before .before .before .is-at .ensures) ∙ c .before .before .before .before .if1 .left) (between 49 74 (c .before .before .before .before .before .before .args .i .name) (omega arith) (omega arith)))
 
-wide-word-requires : tie.Need-wide-word-requires
-wide-word-requires c κs = search needs
-
 returns-5 : tie.Need-returns-5
 returns-5 c = by (c .wide-word .ensures) (named-wide (c .before .before .before .before .before .before .before .args .i) (sym (c .before .before .before .before .before .before .is-at .ensures) ∙ c .before .before .before .before .before .if1 .left) (between 75 81 (c .before .before .before .before .before .before .before .args .i .name) (omega arith) (omega arith)))
-
-ldst-word-requires : tie.Need-ldst-word-requires
-ldst-word-requires c κs = search needs
 
 returns-6 : tie.Need-returns-6
 returns-6 c = by (c .ldst-word .ensures) (named-ldst (c .before .before .before .before .before .before .before .before .args .i) (sym (c .before .before .before .before .before .before .before .is-at .ensures) ∙ c .before .before .before .before .before .before .if1 .left) (between 82 89 (c .before .before .before .before .before .before .before .before .args .i .name) (omega arith) (omega arith)))
 
-media-word-requires : tie.Need-media-word-requires
-media-word-requires c κs = search needs
-
 returns-7 : tie.Need-returns-7
 returns-7 c = by (c .media-word .ensures) (named-media (c .before .before .before .before .before .before .before .before .before .args .i) (sym (c .before .before .before .before .before .before .before .before .is-at .ensures) ∙ c .before .before .before .before .before .before .before .if1 .left) (between 90 114 (c .before .before .before .before .before .before .before .before .before .args .i .name) (omega arith) (omega arith)))
-
-block-word-requires : tie.Need-block-word-requires
-block-word-requires c κs = search needs
 
 returns-8 : tie.Need-returns-8
 returns-8 c = by (c .block-word .ensures) (named-block (c .before .before .before .before .before .before .before .before .before .before .args .i) (sym (c .before .before .before .before .before .before .before .before .before .is-at .ensures) ∙ c .before .before .before .before .before .before .before .before .if1 .left) (between 115 124 (c .before .before .before .before .before .before .before .before .before .before .args .i .name) (omega arith) (omega arith)))
 
-preload-word-requires : tie.Need-preload-word-requires
-preload-word-requires c κs = search needs
-
 returns-9 : tie.Need-returns-9
 returns-9 c = by (c .preload-word .ensures) (named-preload (c .before .before .before .before .before .before .before .before .before .before .before .args .i) (sym (c .before .before .before .before .before .before .before .before .before .before .is-at .ensures) ∙ c .before .before .before .before .before .before .before .before .before .if1 .left) (between 125 128 (c .before .before .before .before .before .before .before .before .before .before .before .args .i .name) (omega arith) (omega arith)))
 
-barrier-word-requires : tie.Need-barrier-word-requires
-barrier-word-requires c κs = search needs
-
 returns-10 : tie.Need-returns-10
 returns-10 c = by (c .barrier-word .ensures) (named-barrier (c .before .before .before .before .before .before .before .before .before .before .before .before .args .i) (sym (c .before .before .before .before .before .before .before .before .before .before .before .is-at .ensures) ∙ c .before .before .before .before .before .before .before .before .before .before .if1 .left) (between 129 132 (c .before .before .before .before .before .before .before .before .before .before .before .before .args .i .name) (omega arith) (omega arith)))
-
-halfword-word-requires : tie.Need-halfword-word-requires
-halfword-word-requires c κs = search needs
 
 returns-11 : tie.Need-returns-11
 returns-11 c = by (c .halfword-word .ensures) (named-halfword (c .before .before .before .before .before .before .before .before .before .before .before .before .args .i) (sym (c .before .before .before .before .before .before .before .before .before .before .before .is-at .ensures) ∙ c .before .before .before .before .before .before .before .before .before .before .if1 .left) _ (between 133 _ (c .before .before .before .before .before .before .before .before .before .before .before .before .args .i .name) (omega arith) (le-refl _)))
 
 pub word-of-spec : {M : Type 1} → statement M
 word-of-spec =
-    tie.close
-    (tie.spec
-    is-at-requires
-    address-word-requires
-    returns
-    dp-word-requires
-    returns-2
-    status-word-requires
-    returns-3
-    extra-word-requires
-    returns-4
-    wide-word-requires
-    returns-5
-    ldst-word-requires
-    returns-6
-    media-word-requires
-    returns-7
-    block-word-requires
-    returns-8
-    preload-word-requires
-    returns-9
-    barrier-word-requires
-    returns-10
-    halfword-word-requires
-    returns-11)
+    tie.close (tie.spec (search needs) (search needs) returns (search needs) returns-2
+    (search needs) returns-3 (search needs) returns-4 (search needs) returns-5 (search needs)
+    returns-6 (search needs) returns-7 (search needs) returns-8 (search needs) returns-9
+    (search needs) returns-10 (search needs) returns-11)

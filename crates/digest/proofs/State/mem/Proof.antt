@@ -6,30 +6,6 @@ use Rattle.digest.proofs.Joined.{joined}
 use Rattle.digest.proofs.State.mem.Statement.{statement}
 use Rattle.digest.proofs.State.mem.Tie as tie
 
-byte-requires : tie.Need-byte-requires
-byte-requires c κs = search needs
-
-index-requires : tie.Need-index-requires
-index-requires c κs = search needs
-
-signed-requires : tie.Need-signed-requires
-signed-requires c κs = search needs
-
-number-requires : tie.Need-number-requires
-number-requires c κs = search needs
-
-byte-requires-2 : tie.Need-byte-requires-2
-byte-requires-2 c κs = search needs
-
-byte-requires-3 : tie.Need-byte-requires-3
-byte-requires-3 c κs = search needs
-
-mark-requires : tie.Need-mark-requires
-mark-requires c κs = search needs
-
-mark-requires-2 : tie.Need-mark-requires-2
-mark-requires-2 c κs = search needs
-
 returns : tie.Need-returns
 returns c =
     let start = c .before .before .before .before .before .before .before .before .before .before in
@@ -49,14 +25,5 @@ returns c =
 
 pub mem-spec : {M : Type 1} → statement M
 mem-spec =
-    tie.close
-    (tie.spec
-    byte-requires
-    index-requires
-    signed-requires
-    number-requires
-    byte-requires-2
-    byte-requires-3
-    mark-requires
-    mark-requires-2
-    returns)
+    tie.close (tie.spec (search needs) (search needs) (search needs) (search needs) (search needs)
+    (search needs) (search needs) (search needs) returns)

@@ -24,30 +24,6 @@ in-turn h (a ∷ b ∷ c ∷ []) e = absurd (omega arith)
 in-turn h (a ∷ b ∷ c ∷ d ∷ []) e = simp joined
 in-turn h (a ∷ b ∷ c ∷ d ∷ x ∷ ps) e = absurd (omega arith)
 
-array-copy-out-a : tie.Need-array-copy-out-a
-array-copy-out-a c = search needs
-
-array-copy-out-b : tie.Need-array-copy-out-b
-array-copy-out-b c = search needs
-
-array-copy-out-c : tie.Need-array-copy-out-c
-array-copy-out-c c = search needs
-
-array-copy-out-d : tie.Need-array-copy-out-d
-array-copy-out-d c = search needs
-
-operand-requires : tie.Need-operand-requires
-operand-requires c κs = search needs
-
-operand-requires-2 : tie.Need-operand-requires-2
-operand-requires-2 c κs = search needs
-
-operand-requires-3 : tie.Need-operand-requires-3
-operand-requires-3 c κs = search needs
-
-operand-requires-4 : tie.Need-operand-requires-4
-operand-requires-4 c κs = search needs
-
 returns : tie.Need-returns
 returns c =
     let start = c .before .before .before .before .before .before .before .before in
@@ -62,14 +38,5 @@ returns c =
 
 pub places-spec : {M : Type 1} → statement M
 places-spec =
-    tie.close
-    (tie.spec
-    array-copy-out-a
-    array-copy-out-b
-    array-copy-out-c
-    array-copy-out-d
-    operand-requires
-    operand-requires-2
-    operand-requires-3
-    operand-requires-4
-    returns)
+    tie.close (tie.spec (search needs) (search needs) (search needs) (search needs) (search needs)
+    (search needs) (search needs) (search needs) returns)

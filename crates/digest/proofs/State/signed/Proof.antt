@@ -5,15 +5,6 @@ use mir.ValLaws.{toZ-ofZ}
 use Rattle.digest.proofs.State.signed.Statement.{statement}
 use Rattle.digest.proofs.State.signed.Tie as tie
 
-bits-of-requires : tie.Need-bits-of-requires
-bits-of-requires c κs = search needs
-
-long-requires : tie.Need-long-requires
-long-requires c κs = search needs
-
-long-requires-2 : tie.Need-long-requires-2
-long-requires-2 c κs = search needs
-
 returns : tie.Need-returns
 returns c =
     simp (
@@ -24,4 +15,4 @@ returns c =
     )
 
 pub signed-spec : {M : Type 1} → statement M
-signed-spec = tie.close (tie.spec bits-of-requires long-requires long-requires-2 returns)
+signed-spec = tie.close (tie.spec (search needs) (search needs) (search needs) returns)

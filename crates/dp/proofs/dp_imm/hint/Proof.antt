@@ -4,27 +4,6 @@ use borrow.Author.Tests.{ne-eqb}
 use Rattle.dp.proofs.dp_imm.hint.Statement.{statement}
 use Rattle.dp.proofs.dp_imm.hint.Tie as tie
 
-bits-requires : tie.Need-bits-requires
-bits-requires c κs = search needs
-
-hint-named-requires : tie.Need-hint-named-requires
-hint-named-requires c κs = search needs
-
-hint-named-requires-2 : tie.Need-hint-named-requires-2
-hint-named-requires-2 c κs = search needs
-
-hint-named-requires-3 : tie.Need-hint-named-requires-3
-hint-named-requires-3 c κs = search needs
-
-hint-named-requires-4 : tie.Need-hint-named-requires-4
-hint-named-requires-4 c κs = search needs
-
-hint-named-requires-5 : tie.Need-hint-named-requires-5
-hint-named-requires-5 c κs = search needs
-
-refuse-requires : tie.Need-refuse-requires
-refuse-requires c κs = search needs
-
 returns : tie.Need-returns
 returns c = simp (c .hint-named .ensures, c .before .match .keys1, ← (c .before .before .bits .ensures))
 
@@ -54,18 +33,5 @@ returns-6 c =
 
 pub hint-spec : {M : Type 1} → statement M
 hint-spec =
-    tie.close
-    (tie.spec
-    bits-requires
-    hint-named-requires
-    hint-named-requires-2
-    hint-named-requires-3
-    hint-named-requires-4
-    hint-named-requires-5
-    refuse-requires
-    returns
-    returns-2
-    returns-3
-    returns-4
-    returns-5
-    returns-6)
+    tie.close (tie.spec (search needs) (search needs) (search needs) (search needs) (search needs)
+    (search needs) (search needs) returns returns-2 returns-3 returns-4 returns-5 returns-6)

@@ -3,14 +3,8 @@ use borrow.Author.Needs.{needs}
 use Rattle.dp.proofs.dp_imm.hint_named.Statement.{statement}
 use Rattle.dp.proofs.dp_imm.hint_named.Tie as tie
 
-at-requires : tie.Need-at-requires
-at-requires c κs = search needs
-
-accept-requires : tie.Need-accept-requires
-accept-requires c κs = search needs
-
 returns : tie.Need-returns
 returns c = simp (c .accept .ensures, c .before .at .ensures)
 
 pub hint-named-spec : {M : Type 1} → statement M
-hint-named-spec = tie.close (tie.spec at-requires accept-requires returns)
+hint-named-spec = tie.close (tie.spec (search needs) (search needs) returns)

@@ -5,12 +5,6 @@ use Rattle.dp.specs.DpImm.{hintSlot}
 use Rattle.dp.proofs.dp_imm.is_hint.Statement.{statement}
 use Rattle.dp.proofs.dp_imm.is_hint.Tie as tie
 
-bits-requires : tie.Need-bits-requires
-bits-requires c κs = search needs
-
-bits-requires-2 : tie.Need-bits-requires-2
-bits-requires-2 c κs = search needs
-
 returns : tie.Need-returns
 unfolding hintSlot
 returns c = simp (c .if1 .taken, ← (c .before .bits2 .ensures), ← (c .before .before .bits .ensures))
@@ -20,4 +14,4 @@ unfolding hintSlot
 returns-2 c = simp (ne-eqb _ _ (c .if1 .left), ← (c .before .bits2 .ensures), ← (c .before .before .bits .ensures))
 
 pub is-hint-spec : {M : Type 1} → statement M
-is-hint-spec = tie.close (tie.spec bits-requires bits-requires-2 returns returns-2)
+is-hint-spec = tie.close (tie.spec (search needs) (search needs) returns returns-2)

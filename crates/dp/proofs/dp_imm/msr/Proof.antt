@@ -6,18 +6,6 @@ use Rattle.imm.specs.Imm.{leastOf}
 use Rattle.dp.proofs.dp_imm.msr.Statement.{statement}
 use Rattle.dp.proofs.dp_imm.msr.Tie as tie
 
-at-requires : tie.Need-at-requires
-at-requires c κs = search needs
-
-status-mask-requires : tie.Need-status-mask-requires
-status-mask-requires c κs = search needs
-
-with-requires : tie.Need-with-requires
-with-requires c κs = search needs
-
-value-requires : tie.Need-value-requires
-value-requires c κs = search needs
-
 returns : tie.Need-returns
 returns c =
     simp (
@@ -29,5 +17,4 @@ returns c =
     (by-test (leastOf (field (c .before .before .before .before .args .w) 0 12)) (λ e. simp e) (λ e. simp e))
 
 pub msr-spec : {M : Type 1} → statement M
-msr-spec =
-    tie.close (tie.spec at-requires status-mask-requires with-requires value-requires returns)
+msr-spec = tie.close (tie.spec (search needs) (search needs) (search needs) (search needs) returns)

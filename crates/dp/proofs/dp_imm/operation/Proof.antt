@@ -7,18 +7,6 @@ use Rattle.imm.specs.Imm.{leastOf}
 use Rattle.dp.proofs.dp_imm.operation.Statement.{statement}
 use Rattle.dp.proofs.dp_imm.operation.Tie as tie
 
-bits-requires : tie.Need-bits-requires
-bits-requires c κs = search needs
-
-bits-requires-2 : tie.Need-bits-requires-2
-bits-requires-2 c κs = search needs
-
-lead-requires : tie.Need-lead-requires
-lead-requires c κs = search needs
-
-value-requires : tie.Need-value-requires
-value-requires c κs = search needs
-
 returns : tie.Need-returns
 returns c =
     simp (
@@ -29,42 +17,6 @@ returns c =
       ← (c .before .before .before .before .bits .ensures),
     )
     (by-test (leastOf (field (c .before .before .before .before .before .args .w) 0 12)) (λ e. simp e) (λ e. simp e))
-
-pc-write-requires : tie.Need-pc-write-requires
-pc-write-requires c κs = search needs
-
-lead-requires-2 : tie.Need-lead-requires-2
-lead-requires-2 c κs = search needs
-
-is-to-pc-requires : tie.Need-is-to-pc-requires
-is-to-pc-requires c κs = search needs
-
-value-requires-2 : tie.Need-value-requires-2
-value-requires-2 c κs = search needs
-
-pc-write-requires-2 : tie.Need-pc-write-requires-2
-pc-write-requires-2 c κs = search needs
-
-lead-requires-3 : tie.Need-lead-requires-3
-lead-requires-3 c κs = search needs
-
-value-requires-3 : tie.Need-value-requires-3
-value-requires-3 c κs = search needs
-
-pc-write-requires-3 : tie.Need-pc-write-requires-3
-pc-write-requires-3 c κs = search needs
-
-lead-requires-4 : tie.Need-lead-requires-4
-lead-requires-4 c κs = search needs
-
-op-at-requires : tie.Need-op-at-requires
-op-at-requires c κs = search needs
-
-with-requires : tie.Need-with-requires
-with-requires c κs = search needs
-
-value-requires-4 : tie.Need-value-requires-4
-value-requires-4 c κs = search needs
 
 returns-2 : tie.Need-returns-2
 returns-2 c =
@@ -111,25 +63,7 @@ returns-4 c =
 
 pub operation-spec : {M : Type 1} → statement M
 operation-spec =
-    tie.close
-    (tie.spec
-    bits-requires
-    bits-requires-2
-    lead-requires
-    value-requires
-    returns
-    pc-write-requires
-    lead-requires-2
-    is-to-pc-requires
-    value-requires-2
-    pc-write-requires-2
-    lead-requires-3
-    value-requires-3
-    pc-write-requires-3
-    lead-requires-4
-    op-at-requires
-    with-requires
-    value-requires-4
-    returns-2
-    returns-3
-    returns-4)
+    tie.close (tie.spec (search needs) (search needs) (search needs) (search needs) returns
+    (search needs) (search needs) (search needs) (search needs) (search needs) (search needs)
+    (search needs) (search needs) (search needs) (search needs) (search needs) (search needs)
+    returns-2 returns-3 returns-4)

@@ -7,21 +7,6 @@ use Rattle.word.specs.Choice.{by-test}
 use Rattle.dp.proofs.dp_reg.dp_reg.Statement.{statement}
 use Rattle.dp.proofs.dp_reg.dp_reg.Tie as tie
 
-bits-requires : tie.Need-bits-requires
-bits-requires c κs = search needs
-
-bits-requires-2 : tie.Need-bits-requires-2
-bits-requires-2 c κs = search needs
-
-pc-write-requires : tie.Need-pc-write-requires
-pc-write-requires c κs = search needs
-
-lead-requires : tie.Need-lead-requires
-lead-requires c κs = search needs
-
-source-requires : tie.Need-source-requires
-source-requires c κs = search needs
-
 returns : tie.Need-returns
 returns c =
     simp (
@@ -33,33 +18,6 @@ returns c =
       ← (c .before .before .before .before .before .bits .ensures),
     )
     (by-test (eqb (field (c .before .before .before .before .before .before .args .w) 4 1) 0) (λ e. simp e) (λ e. simp e))
-
-mov-requires : tie.Need-mov-requires
-mov-requires c κs = search needs
-
-pc-write-requires-2 : tie.Need-pc-write-requires-2
-pc-write-requires-2 c κs = search needs
-
-lead-requires-2 : tie.Need-lead-requires-2
-lead-requires-2 c κs = search needs
-
-source-requires-2 : tie.Need-source-requires-2
-source-requires-2 c κs = search needs
-
-pc-write-requires-3 : tie.Need-pc-write-requires-3
-pc-write-requires-3 c κs = search needs
-
-lead-requires-3 : tie.Need-lead-requires-3
-lead-requires-3 c κs = search needs
-
-op-at-requires : tie.Need-op-at-requires
-op-at-requires c κs = search needs
-
-with-requires : tie.Need-with-requires
-with-requires c κs = search needs
-
-source-requires-3 : tie.Need-source-requires-3
-source-requires-3 c κs = search needs
 
 returns-2 : tie.Need-returns-2
 returns-2 c =
@@ -102,23 +60,6 @@ returns-4 c =
 
 pub dp-reg-spec : {M : Type 1} → statement M
 dp-reg-spec =
-    tie.close
-    (tie.spec
-    bits-requires
-    bits-requires-2
-    pc-write-requires
-    lead-requires
-    source-requires
-    returns
-    mov-requires
-    pc-write-requires-2
-    lead-requires-2
-    source-requires-2
-    pc-write-requires-3
-    lead-requires-3
-    op-at-requires
-    with-requires
-    source-requires-3
-    returns-2
-    returns-3
-    returns-4)
+    tie.close (tie.spec (search needs) (search needs) (search needs) (search needs) (search needs)
+    returns (search needs) (search needs) (search needs) (search needs) (search needs)
+    (search needs) (search needs) (search needs) (search needs) returns-2 returns-3 returns-4)

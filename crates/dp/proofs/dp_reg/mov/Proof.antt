@@ -4,21 +4,6 @@ use borrow.Author.Tests.{ne-eqb}
 use Rattle.dp.proofs.dp_reg.mov.Statement.{statement}
 use Rattle.dp.proofs.dp_reg.mov.Tie as tie
 
-bit-requires : tie.Need-bit-requires
-bit-requires c κs = search needs
-
-is-plain-requires : tie.Need-is-plain-requires
-is-plain-requires c κs = search needs
-
-by-s-requires : tie.Need-by-s-requires
-by-s-requires c κs = search needs
-
-mov-flow-requires : tie.Need-mov-flow-requires
-mov-flow-requires c κs = search needs
-
-two-requires : tie.Need-two-requires
-two-requires c κs = search needs
-
 returns : tie.Need-returns
 returns c =
     simp (
@@ -30,18 +15,6 @@ returns c =
       c .before .before .before .before .before .if1 .taken,
       ← (c .before .before .before .before .before .before .bit .ensures),
     )
-
-is-rrx-requires : tie.Need-is-rrx-requires
-is-rrx-requires c κs = search needs
-
-by-s-requires-2 : tie.Need-by-s-requires-2
-by-s-requires-2 c κs = search needs
-
-pc-write-requires : tie.Need-pc-write-requires
-pc-write-requires c κs = search needs
-
-two-requires-2 : tie.Need-two-requires-2
-two-requires-2 c κs = search needs
 
 returns-2 : tie.Need-returns-2
 returns-2 c =
@@ -56,18 +29,6 @@ returns-2 c =
       c .before .before .before .before .before .before .before .if1 .taken,
       ← (c .before .before .before .before .before .before .before .before .bit .ensures),
     )
-
-mov-count-requires : tie.Need-mov-count-requires
-mov-count-requires c κs = search needs
-
-shift-name-requires : tie.Need-shift-name-requires
-shift-name-requires c κs = search needs
-
-pc-write-requires-2 : tie.Need-pc-write-requires-2
-pc-write-requires-2 c κs = search needs
-
-three-requires : tie.Need-three-requires
-three-requires c κs = search needs
 
 returns-3 : tie.Need-returns-3
 returns-3 c =
@@ -93,22 +54,6 @@ returns-4 c =
 
 pub mov-spec : {M : Type 1} → statement M
 mov-spec =
-    tie.close
-    (tie.spec
-    bit-requires
-    is-plain-requires
-    by-s-requires
-    mov-flow-requires
-    two-requires
-    returns
-    is-rrx-requires
-    by-s-requires-2
-    pc-write-requires
-    two-requires-2
-    returns-2
-    mov-count-requires
-    shift-name-requires
-    pc-write-requires-2
-    three-requires
-    returns-3
-    returns-4)
+    tie.close (tie.spec (search needs) (search needs) (search needs) (search needs) (search needs)
+    returns (search needs) (search needs) (search needs) (search needs) returns-2 (search needs)
+    (search needs) (search needs) (search needs) returns-3 returns-4)

@@ -3,18 +3,6 @@ use borrow.Author.Needs.{needs}
 use Rattle.dp.proofs.dp_reg.mov_flow.Statement.{statement}
 use Rattle.dp.proofs.dp_reg.mov_flow.Tie as tie
 
-reg-at-requires : tie.Need-reg-at-requires
-reg-at-requires c κs = search needs
-
-reg-at-requires-2 : tie.Need-reg-at-requires-2
-reg-at-requires-2 c κs = search needs
-
-is-pc-requires : tie.Need-is-pc-requires
-is-pc-requires c κs = search needs
-
-is-lr-requires : tie.Need-is-lr-requires
-is-lr-requires c κs = search needs
-
 returns : tie.Need-returns
 returns c = simp (c .if2 .taken, ← (rw (c .before .before .before .before .reg-at2 .ensures) at (c .before .is-lr .ensures)), c .before .before .if1 .taken, ← (rw (c .before .before .before .before .before .reg-at .ensures) at (c .before .before .before .is-pc .ensures)))
 
@@ -26,12 +14,5 @@ returns-3 c = simp (c .if1 .left, ← (rw (c .before .before .before .reg-at .en
 
 pub mov-flow-spec : {M : Type 1} → statement M
 mov-flow-spec =
-    tie.close
-    (tie.spec
-    reg-at-requires
-    reg-at-requires-2
-    is-pc-requires
-    is-lr-requires
-    returns
-    returns-2
-    returns-3)
+    tie.close (tie.spec (search needs) (search needs) (search needs) (search needs) returns
+    returns-2 returns-3)

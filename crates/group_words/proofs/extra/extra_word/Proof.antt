@@ -4,15 +4,6 @@ use borrow.Author.Tests.{le-leb, lt-leb}
 use Rattle.group_words.proofs.extra.extra_word.Statement.{statement}
 use Rattle.group_words.proofs.extra.extra_word.Tie as tie
 
-multiply-word-requires : tie.Need-multiply-word-requires
-multiply-word-requires c κs = search needs
-
-sync-word-requires : tie.Need-sync-word-requires
-sync-word-requires c κs = search needs
-
-transfer-word-requires : tie.Need-transfer-word-requires
-transfer-word-requires c κs = search needs
-
 returns : tie.Need-returns
 returns c = simp (c .multiply-word .ensures, le-leb _ _ (c .before .if1 .taken))
 
@@ -34,11 +25,4 @@ returns-3 c =
 
 pub extra-word-spec : {M : Type 1} → statement M
 extra-word-spec =
-    tie.close
-    (tie.spec
-    multiply-word-requires
-    sync-word-requires
-    transfer-word-requires
-    returns
-    returns-2
-    returns-3)
+    tie.close (tie.spec (search needs) (search needs) (search needs) returns returns-2 returns-3)

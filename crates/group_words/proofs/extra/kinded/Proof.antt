@@ -4,15 +4,6 @@ use borrow.Author.Tests.{le-leb, lt-leb, ne-eqb}
 use Rattle.group_words.proofs.extra.kinded.Statement.{statement}
 use Rattle.group_words.proofs.extra.kinded.Tie as tie
 
-pair-requires : tie.Need-pair-requires
-pair-requires c κs = search needs
-
-single-requires : tie.Need-single-requires
-single-requires c κs = search needs
-
-single-requires-2 : tie.Need-single-requires-2
-single-requires-2 c κs = search needs
-
 returns : tie.Need-returns
 returns c =
     simp (
@@ -34,5 +25,4 @@ returns-3 c = simp (c .single2 .ensures, lt-leb _ _ (c .before .if1 .left))
 
 pub kinded-spec : {M : Type 1} → statement M
 kinded-spec =
-    tie.close
-    (tie.spec pair-requires single-requires single-requires-2 returns returns-2 returns-3)
+    tie.close (tie.spec (search needs) (search needs) (search needs) returns returns-2 returns-3)

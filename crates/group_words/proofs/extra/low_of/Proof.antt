@@ -4,9 +4,6 @@ use borrow.Author.Tests.{ne-eqb}
 use Rattle.group_words.proofs.extra.low_of.Statement.{statement}
 use Rattle.group_words.proofs.extra.low_of.Tie as tie
 
-cast-result : tie.Need-cast-result
-cast-result c = search needs
-
 returns : tie.Need-returns
 returns c = simp (c .before .if1 .taken)
 
@@ -14,4 +11,4 @@ returns-2 : tie.Need-returns-2
 returns-2 c = simp (ne-eqb _ _ (c .before .if1 .left))
 
 pub low-of-spec : {M : Type 1} → statement M
-low-of-spec = tie.close (tie.spec cast-result returns returns-2)
+low-of-spec = tie.close (tie.spec (search needs) returns returns-2)

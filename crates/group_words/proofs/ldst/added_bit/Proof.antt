@@ -5,9 +5,6 @@ use Rattle.home.specs.WordLdst.{addedBit}
 use Rattle.group_words.proofs.ldst.added_bit.Statement.{statement}
 use Rattle.group_words.proofs.ldst.added_bit.Tie as tie
 
-bit-u-requires : tie.Need-bit-u-requires
-bit-u-requires c κs = search needs
-
 returns : tie.Need-returns
 unfolding addedBit
 returns c = simp (c .bit-u .ensures, c .before .if1 .taken)
@@ -17,4 +14,4 @@ unfolding addedBit
 returns-2 c = simp (ne-eqb _ _ (c .if1 .left))
 
 pub added-bit-spec : {M : Type 1} → statement M
-added-bit-spec = tie.close (tie.spec bit-u-requires returns returns-2)
+added-bit-spec = tie.close (tie.spec (search needs) returns returns-2)

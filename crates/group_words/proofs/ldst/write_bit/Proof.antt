@@ -5,12 +5,6 @@ use Rattle.home.specs.WordLdst.{writeBit}
 use Rattle.group_words.proofs.ldst.write_bit.Statement.{statement}
 use Rattle.group_words.proofs.ldst.write_bit.Tie as tie
 
-user-bit-requires : tie.Need-user-bit-requires
-user-bit-requires c κs = search needs
-
-bit-w-requires : tie.Need-bit-w-requires
-bit-w-requires c κs = search needs
-
 returns : tie.Need-returns
 unfolding writeBit
 returns c = simp (c .user-bit .ensures, c .before .if1 .taken)
@@ -20,4 +14,4 @@ unfolding writeBit
 returns-2 c = simp (c .bit-w .ensures, ne-eqb _ _ (c .before .if1 .left))
 
 pub write-bit-spec : {M : Type 1} → statement M
-write-bit-spec = tie.close (tie.spec user-bit-requires bit-w-requires returns returns-2)
+write-bit-spec = tie.close (tie.spec (search needs) (search needs) returns returns-2)

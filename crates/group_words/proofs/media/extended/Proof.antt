@@ -4,18 +4,6 @@ use borrow.Author.Tests.{ne-eqb}
 use Rattle.group_words.proofs.media.extended.Statement.{statement}
 use Rattle.group_words.proofs.media.extended.Tie as tie
 
-slice-aggregate-entry : tie.Need-slice-aggregate-entry
-slice-aggregate-entry c = search needs
-
-entry-requires : tie.Need-entry-requires
-entry-requires c κs = search needs
-
-extend-word-requires : tie.Need-extend-word-requires
-extend-word-requires c κs = search needs
-
-add-extend-word-requires : tie.Need-add-extend-word-requires
-add-extend-word-requires c κs = search needs
-
 returns : tie.Need-returns
 returns c =
     simp (
@@ -34,11 +22,5 @@ returns-2 c =
 
 pub extended-spec : {M : Type 1} → statement M
 extended-spec =
-    tie.close
-    (tie.spec
-    slice-aggregate-entry
-    entry-requires
-    extend-word-requires
-    add-extend-word-requires
-    returns
+    tie.close (tie.spec (search needs) (search needs) (search needs) (search needs) returns
     returns-2)

@@ -7,21 +7,10 @@ use native.Mathlib.Omega.{arith}
 use Rattle.group_words.proofs.media.last.Statement.{statement}
 use Rattle.group_words.proofs.media.last.Tie as tie
 
-less-requires : tie.Need-less-requires
-less-requires c κs = search needs
-
-sub-result : tie.Need-sub-result
-sub-result c = search needs
-
-add-result : tie.Need-add-result
-add-result c = search needs
-
-returns : tie.Need-returns
-returns c = search needs
-
 returns-2 : tie.Need-returns-2
 returns-2 c =
     rw (mod-add-mod, add-mod-mod) (ap (λ (n : ℕ). n % 2 ^ 32) (omega arith))
 
 pub last-spec : {M : Type 1} → statement M
-last-spec = tie.close (tie.spec less-requires sub-result add-result returns returns-2)
+last-spec =
+    tie.close (tie.spec (search needs) (search needs) (search needs) (λ c. search needs) returns-2)

@@ -5,36 +5,6 @@ use Rattle.home.specs.WordMedia.{laidAs}
 use Rattle.group_words.proofs.media.media_word.Statement.{statement}
 use Rattle.group_words.proofs.media.media_word.Tie as tie
 
-udf-word-requires : tie.Need-udf-word-requires
-udf-word-requires c κs = search needs
-
-bfx-word-requires : tie.Need-bfx-word-requires
-bfx-word-requires c κs = search needs
-
-bfx-word-requires-2 : tie.Need-bfx-word-requires-2
-bfx-word-requires-2 c κs = search needs
-
-bfc-word-requires : tie.Need-bfc-word-requires
-bfc-word-requires c κs = search needs
-
-bfi-word-requires : tie.Need-bfi-word-requires
-bfi-word-requires c κs = search needs
-
-div-word-requires : tie.Need-div-word-requires
-div-word-requires c κs = search needs
-
-div-word-requires-2 : tie.Need-div-word-requires-2
-div-word-requires-2 c κs = search needs
-
-ssat-word-requires : tie.Need-ssat-word-requires
-ssat-word-requires c κs = search needs
-
-usat-word-requires : tie.Need-usat-word-requires
-usat-word-requires c κs = search needs
-
-moved-requires : tie.Need-moved-requires
-moved-requires c κs = search needs
-
 returns : tie.Need-returns
 unfolding laidAs
 returns c = simp (c .udf-word .ensures, c .before .match .keys1)
@@ -89,25 +59,6 @@ returns-10 c =
 
 pub media-word-spec : {M : Type 1} → statement M
 media-word-spec =
-    tie.close
-    (tie.spec
-    udf-word-requires
-    bfx-word-requires
-    bfx-word-requires-2
-    bfc-word-requires
-    bfi-word-requires
-    div-word-requires
-    div-word-requires-2
-    ssat-word-requires
-    usat-word-requires
-    moved-requires
-    returns
-    returns-2
-    returns-3
-    returns-4
-    returns-5
-    returns-6
-    returns-7
-    returns-8
-    returns-9
-    returns-10)
+    tie.close (tie.spec (search needs) (search needs) (search needs) (search needs) (search needs)
+    (search needs) (search needs) (search needs) (search needs) (search needs) returns returns-2
+    returns-3 returns-4 returns-5 returns-6 returns-7 returns-8 returns-9 returns-10)

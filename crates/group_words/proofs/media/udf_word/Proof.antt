@@ -3,21 +3,6 @@ use borrow.Author.Needs.{needs}
 use Rattle.group_words.proofs.media.udf_word.Statement.{statement}
 use Rattle.group_words.proofs.media.udf_word.Tie as tie
 
-number-at-requires : tie.Need-number-at-requires
-number-at-requires c κs = search needs
-
-slice-aggregate-join : tie.Need-slice-aggregate-join
-slice-aggregate-join c = search needs
-
-cond-requires : tie.Need-cond-requires
-cond-requires c κs = search needs
-
-slice-aggregate-join-2 : tie.Need-slice-aggregate-join-2
-slice-aggregate-join-2 c = search needs
-
-join-requires : tie.Need-join-requires
-join-requires c κs = search needs
-
 returns : tie.Need-returns
 returns c =
     simp (
@@ -28,11 +13,5 @@ returns c =
 
 pub udf-word-spec : {M : Type 1} → statement M
 udf-word-spec =
-    tie.close
-    (tie.spec
-    number-at-requires
-    slice-aggregate-join
-    cond-requires
-    slice-aggregate-join-2
-    join-requires
+    tie.close (tie.spec (search needs) (search needs) (search needs) (search needs) (search needs)
     returns)

@@ -4,48 +4,6 @@ use borrow.Author.Tests.{ne-eqb}
 use Rattle.group_words.proofs.misc.misc_word.Statement.{statement}
 use Rattle.group_words.proofs.misc.misc_word.Tie as tie
 
-register-at-requires : tie.Need-register-at-requires
-register-at-requires c κs = search needs
-
-how-at-requires : tie.Need-how-at-requires
-how-at-requires c κs = search needs
-
-status-requires : tie.Need-status-requires
-status-requires c κs = search needs
-
-masked-requires : tie.Need-masked-requires
-masked-requires c κs = search needs
-
-register-at-requires-2 : tie.Need-register-at-requires-2
-register-at-requires-2 c κs = search needs
-
-single-requires : tie.Need-single-requires
-single-requires c κs = search needs
-
-several-requires : tie.Need-several-requires
-several-requires c κs = search needs
-
-register-at-requires-3 : tie.Need-register-at-requires-3
-register-at-requires-3 c κs = search needs
-
-single-requires-2 : tie.Need-single-requires-2
-single-requires-2 c κs = search needs
-
-register-at-requires-4 : tie.Need-register-at-requires-4
-register-at-requires-4 c κs = search needs
-
-single-requires-3 : tie.Need-single-requires-3
-single-requires-3 c κs = search needs
-
-numbered-requires : tie.Need-numbered-requires
-numbered-requires c κs = search needs
-
-past-requires : tie.Need-past-requires
-past-requires c κs = search needs
-
-saturating-requires : tie.Need-saturating-requires
-saturating-requires c κs = search needs
-
 returns : tie.Need-returns
 returns c =
     simp (
@@ -104,27 +62,7 @@ returns-8 c =
 
 pub misc-word-spec : {M : Type 1} → statement M
 misc-word-spec =
-    tie.close
-    (tie.spec
-    register-at-requires
-    how-at-requires
-    status-requires
-    masked-requires
-    register-at-requires-2
-    single-requires
-    several-requires
-    register-at-requires-3
-    single-requires-2
-    register-at-requires-4
-    single-requires-3
-    numbered-requires
-    past-requires
-    saturating-requires
-    returns
-    returns-2
-    returns-3
-    returns-4
-    returns-5
-    returns-6
-    returns-7
-    returns-8)
+    tie.close (tie.spec (search needs) (search needs) (search needs) (search needs) (search needs)
+    (search needs) (search needs) (search needs) (search needs) (search needs) (search needs)
+    (search needs) (search needs) (search needs) returns returns-2 returns-3 returns-4 returns-5
+    returns-6 returns-7 returns-8)

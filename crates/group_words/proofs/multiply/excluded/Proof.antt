@@ -4,12 +4,6 @@ use borrow.Author.Tests.{ne-eqb}
 use Rattle.group_words.proofs.multiply.excluded.Statement.{statement}
 use Rattle.group_words.proofs.multiply.excluded.Tie as tie
 
-store-requires : tie.Need-store-requires
-store-requires c κs = search needs
-
-load-requires : tie.Need-load-requires
-load-requires c κs = search needs
-
 returns : tie.Need-returns
 returns c = simp (c .store .ensures, c .before .if1 .taken)
 
@@ -17,4 +11,4 @@ returns-2 : tie.Need-returns-2
 returns-2 c = simp (c .load .ensures, ne-eqb _ _ (c .before .if1 .left))
 
 pub excluded-spec : {M : Type 1} → statement M
-excluded-spec = tie.close (tie.spec store-requires load-requires returns returns-2)
+excluded-spec = tie.close (tie.spec (search needs) (search needs) returns returns-2)

@@ -3,15 +3,6 @@ use borrow.Author.Needs.{needs}
 use Rattle.group_words.proofs.multiply.multiplied.Statement.{statement}
 use Rattle.group_words.proofs.multiply.multiplied.Tie as tie
 
-is-long-requires : tie.Need-is-long-requires
-is-long-requires c κs = search needs
-
-long-requires : tie.Need-long-requires
-long-requires c κs = search needs
-
-short-requires : tie.Need-short-requires
-short-requires c κs = search needs
-
 returns : tie.Need-returns
 returns c =
     simp (
@@ -30,4 +21,4 @@ returns-2 c =
 
 pub multiplied-spec : {M : Type 1} → statement M
 multiplied-spec =
-    tie.close (tie.spec is-long-requires long-requires short-requires returns returns-2)
+    tie.close (tie.spec (search needs) (search needs) (search needs) returns returns-2)

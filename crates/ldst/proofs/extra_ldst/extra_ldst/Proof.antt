@@ -4,18 +4,6 @@ use borrow.Author.Tests.{ne-eqb}
 use Rattle.ldst.proofs.extra_ldst.extra_ldst.Statement.{statement}
 use Rattle.ldst.proofs.extra_ldst.extra_ldst.Tie as tie
 
-bits-requires : tie.Need-bits-requires
-bits-requires c κs = search needs
-
-bit-requires : tie.Need-bit-requires
-bit-requires c κs = search needs
-
-is-unprivileged-requires : tie.Need-is-unprivileged-requires
-is-unprivileged-requires c κs = search needs
-
-refuse-requires : tie.Need-refuse-requires
-refuse-requires c κs = search needs
-
 returns : tie.Need-returns
 returns c =
     simp (
@@ -25,12 +13,6 @@ returns c =
       ← (c .before .before .before .bit .ensures),
       ← (c .before .before .before .before .bits .ensures),
     )
-
-is-subtracted-index-requires : tie.Need-is-subtracted-index-requires
-is-subtracted-index-requires c κs = search needs
-
-refuse-requires-2 : tie.Need-refuse-requires-2
-refuse-requires-2 c κs = search needs
 
 returns-2 : tie.Need-returns-2
 returns-2 c =
@@ -43,27 +25,6 @@ returns-2 c =
       ← (c .before .before .before .before .before .bit .ensures),
       ← (c .before .before .before .before .before .before .bits .ensures),
     )
-
-single-requires : tie.Need-single-requires
-single-requires c κs = search needs
-
-single-requires-2 : tie.Need-single-requires-2
-single-requires-2 c κs = search needs
-
-pair-requires : tie.Need-pair-requires
-pair-requires c κs = search needs
-
-single-requires-3 : tie.Need-single-requires-3
-single-requires-3 c κs = search needs
-
-pair-requires-2 : tie.Need-pair-requires-2
-pair-requires-2 c κs = search needs
-
-single-requires-4 : tie.Need-single-requires-4
-single-requires-4 c κs = search needs
-
-refuse-requires-3 : tie.Need-refuse-requires-3
-refuse-requires-3 c κs = search needs
 
 returns-3 : tie.Need-returns-3
 returns-3 c =
@@ -166,27 +127,7 @@ returns-9 c =
 
 pub extra-ldst-spec : {M : Type 1} → statement M
 extra-ldst-spec =
-    tie.close
-    (tie.spec
-    bits-requires
-    bit-requires
-    is-unprivileged-requires
-    refuse-requires
-    returns
-    is-subtracted-index-requires
-    refuse-requires-2
-    returns-2
-    single-requires
-    single-requires-2
-    pair-requires
-    single-requires-3
-    pair-requires-2
-    single-requires-4
-    refuse-requires-3
-    returns-3
-    returns-4
-    returns-5
-    returns-6
-    returns-7
-    returns-8
-    returns-9)
+    tie.close (tie.spec (search needs) (search needs) (search needs) (search needs) returns
+    (search needs) (search needs) returns-2 (search needs) (search needs) (search needs)
+    (search needs) (search needs) (search needs) (search needs) returns-3 returns-4 returns-5
+    returns-6 returns-7 returns-8 returns-9)

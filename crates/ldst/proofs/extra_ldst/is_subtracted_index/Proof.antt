@@ -5,12 +5,6 @@ use Rattle.ldst.specs.ExtraLdst.{subtractedIndexOf}
 use Rattle.ldst.proofs.extra_ldst.is_subtracted_index.Statement.{statement}
 use Rattle.ldst.proofs.extra_ldst.is_subtracted_index.Tie as tie
 
-bit-requires : tie.Need-bit-requires
-bit-requires c κs = search needs
-
-bit-requires-2 : tie.Need-bit-requires-2
-bit-requires-2 c κs = search needs
-
 returns : tie.Need-returns
 unfolding subtractedIndexOf
 returns c = simp (c .if1 .taken, ← (c .before .bit2 .ensures), ← (c .before .before .bit .ensures))
@@ -20,4 +14,4 @@ unfolding subtractedIndexOf
 returns-2 c = simp (ne-eqb _ _ (c .if1 .left), ← (c .before .bit2 .ensures), ← (c .before .before .bit .ensures))
 
 pub is-subtracted-index-spec : {M : Type 1} → statement M
-is-subtracted-index-spec = tie.close (tie.spec bit-requires bit-requires-2 returns returns-2)
+is-subtracted-index-spec = tie.close (tie.spec (search needs) (search needs) returns returns-2)

@@ -4,21 +4,6 @@ use borrow.Author.Tests.{ne-eqb}
 use Rattle.ldst.proofs.extra_ldst.memory.Statement.{statement}
 use Rattle.ldst.proofs.extra_ldst.memory.Tie as tie
 
-bit-requires : tie.Need-bit-requires
-bit-requires c κs = search needs
-
-with-index-requires : tie.Need-with-index-requires
-with-index-requires c κs = search needs
-
-bits-then-requires : tie.Need-bits-then-requires
-bits-then-requires c κs = search needs
-
-is-minus-zero-requires : tie.Need-is-minus-zero-requires
-is-minus-zero-requires c κs = search needs
-
-with-disp-requires : tie.Need-with-disp-requires
-with-disp-requires c κs = search needs
-
 returns : tie.Need-returns
 returns c = simp (c .with-index .ensures, c .before .if1 .taken, ← (c .before .before .bit .ensures))
 
@@ -34,12 +19,5 @@ returns-2 c =
 
 pub memory-spec : {M : Type 1} → statement M
 memory-spec =
-    tie.close
-    (tie.spec
-    bit-requires
-    with-index-requires
-    bits-then-requires
-    is-minus-zero-requires
-    with-disp-requires
-    returns
-    returns-2)
+    tie.close (tie.spec (search needs) (search needs) (search needs) (search needs) (search needs)
+    returns returns-2)

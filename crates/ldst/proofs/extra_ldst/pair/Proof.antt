@@ -16,41 +16,8 @@ next c = mod-eq-of-lt (omega (arith, of-sixteen))
     of-sixteen : c .before .bits .result < 16
     of-sixteen = rw (c .before .bits .ensures) (small _ 12 4)
 
-bits-requires : tie.Need-bits-requires
-bits-requires c κs = search needs
-
-refuse-requires : tie.Need-refuse-requires
-refuse-requires c κs = search needs
-
 returns : tie.Need-returns
 returns c = simp (c .refuse .ensures, c .before .if1 .taken, ← (c .before .before .bits .ensures))
-
-at-requires : tie.Need-at-requires
-at-requires c κs = search needs
-
-op-at-requires : tie.Need-op-at-requires
-op-at-requires c κs = search needs
-
-with-requires : tie.Need-with-requires
-with-requires c κs = search needs
-
-add-reg : tie.Need-add-reg
-add-reg c = search needs
-
-reg-requires : tie.Need-reg-requires
-reg-requires c κs = search needs
-
-with-requires-2 : tie.Need-with-requires-2
-with-requires-2 c κs = search needs
-
-memory-requires : tie.Need-memory-requires
-memory-requires c κs = search needs
-
-with-requires-3 : tie.Need-with-requires-3
-with-requires-3 c κs = search needs
-
-accept-requires : tie.Need-accept-requires
-accept-requires c κs = search needs
 
 returns-2 : tie.Need-returns-2
 returns-2 c =
@@ -70,18 +37,6 @@ returns-2 c =
 
 pub pair-spec : {M : Type 1} → statement M
 pair-spec =
-    tie.close
-    (tie.spec
-    bits-requires
-    refuse-requires
-    returns
-    at-requires
-    op-at-requires
-    with-requires
-    add-reg
-    reg-requires
-    with-requires-2
-    memory-requires
-    with-requires-3
-    accept-requires
-    returns-2)
+    tie.close (tie.spec (search needs) (search needs) returns (search needs) (search needs)
+    (search needs) (search needs) (search needs) (search needs) (search needs) (search needs)
+    (search needs) returns-2)

@@ -4,12 +4,6 @@ use borrow.Author.Tests.{ne-eqb}
 use Rattle.ldst.proofs.ldst.by_lb.Statement.{statement}
 use Rattle.ldst.proofs.ldst.by_lb.Tie as tie
 
-bit-requires : tie.Need-bit-requires
-bit-requires c κs = search needs
-
-bit-requires-2 : tie.Need-bit-requires-2
-bit-requires-2 c κs = search needs
-
 returns : tie.Need-returns
 returns c =
     simp (
@@ -47,4 +41,5 @@ returns-4 c =
     )
 
 pub by-lb-spec : {M : Type 1} → statement M
-by-lb-spec = tie.close (tie.spec bit-requires bit-requires-2 returns returns-2 returns-3 returns-4)
+by-lb-spec =
+    tie.close (tie.spec (search needs) (search needs) returns returns-2 returns-3 returns-4)

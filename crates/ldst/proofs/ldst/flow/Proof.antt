@@ -4,12 +4,6 @@ use borrow.Author.Tests.{ne-eqb}
 use Rattle.ldst.proofs.ldst.flow.Statement.{statement}
 use Rattle.ldst.proofs.ldst.flow.Tie as tie
 
-bit-requires : tie.Need-bit-requires
-bit-requires c κs = search needs
-
-pc-write-requires : tie.Need-pc-write-requires
-pc-write-requires c κs = search needs
-
 returns : tie.Need-returns
 returns c = simp (c .if1 .taken, ← (c .before .bit .ensures))
 
@@ -17,4 +11,4 @@ returns-2 : tie.Need-returns-2
 returns-2 c = simp (c .pc-write .ensures, ne-eqb _ _ (c .before .if1 .left), ← (c .before .before .bit .ensures))
 
 pub flow-spec : {M : Type 1} → statement M
-flow-spec = tie.close (tie.spec bit-requires pc-write-requires returns returns-2)
+flow-spec = tie.close (tie.spec (search needs) (search needs) returns returns-2)

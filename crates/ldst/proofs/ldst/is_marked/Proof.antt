@@ -4,21 +4,6 @@ use Rattle.ldst.specs.Ldst.{markedOf}
 use Rattle.ldst.proofs.ldst.is_marked.Statement.{statement}
 use Rattle.ldst.proofs.ldst.is_marked.Tie as tie
 
-mode-requires : tie.Need-mode-requires
-mode-requires c κs = search needs
-
-is-minus-zero-requires : tie.Need-is-minus-zero-requires
-is-minus-zero-requires c κs = search needs
-
-enum-told : tie.Need-enum-told
-enum-told c = search needs
-
-enum-told-2 : tie.Need-enum-told-2
-enum-told-2 c = search needs
-
-enum-told-3 : tie.Need-enum-told-3
-enum-told-3 c = search needs
-
 returns : tie.Need-returns
 unfolding markedOf
 returns c =
@@ -48,13 +33,5 @@ returns-3 c =
 
 pub is-marked-spec : {M : Type 1} → statement M
 is-marked-spec =
-    tie.close
-    (tie.spec
-    mode-requires
-    is-minus-zero-requires
-    enum-told
-    enum-told-2
-    enum-told-3
-    returns
-    returns-2
-    returns-3)
+    tie.close (tie.spec (search needs) (search needs) (search needs) (search needs) (search needs)
+    returns returns-2 returns-3)

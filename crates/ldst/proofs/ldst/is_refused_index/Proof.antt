@@ -5,15 +5,6 @@ use Rattle.ldst.specs.Ldst.{refusedIndexOf}
 use Rattle.ldst.proofs.ldst.is_refused_index.Statement.{statement}
 use Rattle.ldst.proofs.ldst.is_refused_index.Tie as tie
 
-bit-requires : tie.Need-bit-requires
-bit-requires c κs = search needs
-
-bit-requires-2 : tie.Need-bit-requires-2
-bit-requires-2 c κs = search needs
-
-bits-requires : tie.Need-bits-requires
-bits-requires c κs = search needs
-
 returns : tie.Need-returns
 unfolding refusedIndexOf
 returns c =
@@ -48,4 +39,4 @@ returns-3 c =
 
 pub is-refused-index-spec : {M : Type 1} → statement M
 is-refused-index-spec =
-    tie.close (tie.spec bit-requires bit-requires-2 bits-requires returns returns-2 returns-3)
+    tie.close (tie.spec (search needs) (search needs) (search needs) returns returns-2 returns-3)

@@ -3,38 +3,8 @@ use borrow.Author.Needs.{needs}
 use Rattle.ldst.proofs.ldst.ldst.Statement.{statement}
 use Rattle.ldst.proofs.ldst.ldst.Tie as tie
 
-is-refused-index-requires : tie.Need-is-refused-index-requires
-is-refused-index-requires c κs = search needs
-
-refuse-requires : tie.Need-refuse-requires
-refuse-requires c κs = search needs
-
 returns : tie.Need-returns
 returns c = simp (c .refuse .ensures, c .before .if1 .taken, ← (c .before .before .is-refused-index .ensures))
-
-name-requires : tie.Need-name-requires
-name-requires c κs = search needs
-
-flow-requires : tie.Need-flow-requires
-flow-requires c κs = search needs
-
-at-requires : tie.Need-at-requires
-at-requires c κs = search needs
-
-op-at-requires : tie.Need-op-at-requires
-op-at-requires c κs = search needs
-
-with-requires : tie.Need-with-requires
-with-requires c κs = search needs
-
-memory-requires : tie.Need-memory-requires
-memory-requires c κs = search needs
-
-with-requires-2 : tie.Need-with-requires-2
-with-requires-2 c κs = search needs
-
-accept-requires : tie.Need-accept-requires
-accept-requires c κs = search needs
 
 returns-2 : tie.Need-returns-2
 returns-2 c =
@@ -53,17 +23,6 @@ returns-2 c =
 
 pub ldst-spec : {M : Type 1} → statement M
 ldst-spec =
-    tie.close
-    (tie.spec
-    is-refused-index-requires
-    refuse-requires
-    returns
-    name-requires
-    flow-requires
-    at-requires
-    op-at-requires
-    with-requires
-    memory-requires
-    with-requires-2
-    accept-requires
+    tie.close (tie.spec (search needs) (search needs) returns (search needs) (search needs)
+    (search needs) (search needs) (search needs) (search needs) (search needs) (search needs)
     returns-2)

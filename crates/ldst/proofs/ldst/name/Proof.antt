@@ -3,15 +3,6 @@ use borrow.Author.Needs.{needs}
 use Rattle.ldst.proofs.ldst.name.Statement.{statement}
 use Rattle.ldst.proofs.ldst.name.Tie as tie
 
-is-unprivileged-requires : tie.Need-is-unprivileged-requires
-is-unprivileged-requires c κs = search needs
-
-by-lb-requires : tie.Need-by-lb-requires
-by-lb-requires c κs = search needs
-
-by-lb-requires-2 : tie.Need-by-lb-requires-2
-by-lb-requires-2 c κs = search needs
-
 returns : tie.Need-returns
 returns c = simp (c .by-lb .ensures, c .before .if1 .taken, ← (c .before .before .is-unprivileged .ensures))
 
@@ -19,5 +10,4 @@ returns-2 : tie.Need-returns-2
 returns-2 c = simp (c .by-lb2 .ensures, c .before .if1 .left, ← (c .before .before .is-unprivileged .ensures))
 
 pub name-spec : {M : Type 1} → statement M
-name-spec =
-    tie.close (tie.spec is-unprivileged-requires by-lb-requires by-lb-requires-2 returns returns-2)
+name-spec = tie.close (tie.spec (search needs) (search needs) (search needs) returns returns-2)

@@ -7,15 +7,6 @@ use mir.ValLaws.{toZ-ofZ}
 use Rattle.ldst.proofs.mem.disp.Statement.{statement}
 use Rattle.ldst.proofs.mem.disp.Tie as tie
 
-bit-requires : tie.Need-bit-requires
-bit-requires c κs = search needs
-
-negative-requires : tie.Need-negative-requires
-negative-requires c κs = search needs
-
-positive-requires : tie.Need-positive-requires
-positive-requires c κs = search needs
-
 returns : tie.Need-returns
 returns c =
     toZ-ofZ w64 (c .negative .result) (record { sfits = c .negative .ok })
@@ -27,4 +18,4 @@ returns-2 c =
     ∙ simp (c .positive .ensures, ne-eqb _ _ (c .before .if1 .left), ← (c .before .before .bit .ensures))
 
 pub disp-spec : {M : Type 1} → statement M
-disp-spec = tie.close (tie.spec bit-requires negative-requires positive-requires returns returns-2)
+disp-spec = tie.close (tie.spec (search needs) (search needs) (search needs) returns returns-2)

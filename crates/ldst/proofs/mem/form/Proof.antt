@@ -5,12 +5,6 @@ use mir.ValLaws.{toZ-ofZ}
 use Rattle.ldst.proofs.mem.form.Statement.{statement}
 use Rattle.ldst.proofs.mem.form.Tie as tie
 
-reg-at-requires : tie.Need-reg-at-requires
-reg-at-requires c κs = search needs
-
-mode-requires : tie.Need-mode-requires
-mode-requires c κs = search needs
-
 returns : tie.Need-returns
 returns c =
     simp (
@@ -20,4 +14,4 @@ returns c =
     )
 
 pub form-spec : {M : Type 1} → statement M
-form-spec = tie.close (tie.spec reg-at-requires mode-requires returns)
+form-spec = tie.close (tie.spec (search needs) (search needs) returns)

@@ -5,9 +5,6 @@ use Rattle.ldst.specs.Mem.{minusZeroOf}
 use Rattle.ldst.proofs.mem.is_minus_zero.Statement.{statement}
 use Rattle.ldst.proofs.mem.is_minus_zero.Tie as tie
 
-bit-requires : tie.Need-bit-requires
-bit-requires c κs = search needs
-
 returns : tie.Need-returns
 unfolding minusZeroOf
 returns c = simp (c .if1 .taken, ← (c .before .bit .ensures))
@@ -17,4 +14,4 @@ unfolding minusZeroOf
 returns-2 c = simp (ne-eqb _ _ (c .if1 .left), ← (c .before .bit .ensures))
 
 pub is-minus-zero-spec : {M : Type 1} → statement M
-is-minus-zero-spec = tie.close (tie.spec bit-requires returns returns-2)
+is-minus-zero-spec = tie.close (tie.spec (search needs) returns returns-2)

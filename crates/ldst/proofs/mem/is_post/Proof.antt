@@ -4,18 +4,6 @@ use Rattle.ldst.specs.Mem.{postOf}
 use Rattle.ldst.proofs.mem.is_post.Statement.{statement}
 use Rattle.ldst.proofs.mem.is_post.Tie as tie
 
-mode-requires : tie.Need-mode-requires
-mode-requires c κs = search needs
-
-enum-told : tie.Need-enum-told
-enum-told c = search needs
-
-enum-told-2 : tie.Need-enum-told-2
-enum-told-2 c = search needs
-
-enum-told-3 : tie.Need-enum-told-3
-enum-told-3 c = search needs
-
 returns : tie.Need-returns
 unfolding postOf
 returns c = simp (c .enum-told .given .1, ← (c .before .before .mode .ensures))
@@ -30,5 +18,5 @@ returns-3 c = simp (c .enum-told3 .given .1, ← (c .before .before .mode .ensur
 
 pub is-post-spec : {M : Type 1} → statement M
 is-post-spec =
-    tie.close
-    (tie.spec mode-requires enum-told enum-told-2 enum-told-3 returns returns-2 returns-3)
+    tie.close (tie.spec (search needs) (search needs) (search needs) (search needs) returns
+    returns-2 returns-3)

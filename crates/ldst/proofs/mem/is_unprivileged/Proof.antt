@@ -5,12 +5,6 @@ use Rattle.ldst.specs.Mem.{unprivilegedOf}
 use Rattle.ldst.proofs.mem.is_unprivileged.Statement.{statement}
 use Rattle.ldst.proofs.mem.is_unprivileged.Tie as tie
 
-bit-requires : tie.Need-bit-requires
-bit-requires c κs = search needs
-
-bit-requires-2 : tie.Need-bit-requires-2
-bit-requires-2 c κs = search needs
-
 returns : tie.Need-returns
 unfolding unprivilegedOf
 returns c = simp (c .if1 .taken, ← (c .before .bit2 .ensures), ← (c .before .before .bit .ensures))
@@ -20,4 +14,4 @@ unfolding unprivilegedOf
 returns-2 c = simp (ne-eqb _ _ (c .if1 .left), ← (c .before .bit2 .ensures), ← (c .before .before .bit .ensures))
 
 pub is-unprivileged-spec : {M : Type 1} → statement M
-is-unprivileged-spec = tie.close (tie.spec bit-requires bit-requires-2 returns returns-2)
+is-unprivileged-spec = tie.close (tie.spec (search needs) (search needs) returns returns-2)

@@ -4,12 +4,6 @@ use borrow.Author.Tests.{ne-eqb}
 use Rattle.ldst.proofs.mem.mode.Statement.{statement}
 use Rattle.ldst.proofs.mem.mode.Tie as tie
 
-bit-requires : tie.Need-bit-requires
-bit-requires c κs = search needs
-
-bit-requires-2 : tie.Need-bit-requires-2
-bit-requires-2 c κs = search needs
-
 returns : tie.Need-returns
 returns c = simp (c .if1 .taken, ← (c .before .bit2 .ensures), ← (c .before .before .bit .ensures))
 
@@ -32,4 +26,4 @@ returns-3 c =
     )
 
 pub mode-spec : {M : Type 1} → statement M
-mode-spec = tie.close (tie.spec bit-requires bit-requires-2 returns returns-2 returns-3)
+mode-spec = tie.close (tie.spec (search needs) (search needs) returns returns-2 returns-3)

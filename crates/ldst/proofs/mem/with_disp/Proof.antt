@@ -5,16 +5,10 @@ use mir.ValLaws.{toZ-ofZ}
 use Rattle.ldst.proofs.mem.with_disp.Statement.{statement}
 use Rattle.ldst.proofs.mem.with_disp.Tie as tie
 
-disp-requires : tie.Need-disp-requires
-disp-requires c κs = search needs
-
-form-requires : tie.Need-form-requires
-form-requires c κs = search needs
-
 returns : tie.Need-returns
 returns c =
     simp (c .form .ensures, toZ-ofZ w64 (c .before .disp .result) (record { sfits = c .before .disp .ok }))
     (simp (c .before .disp .ensures))
 
 pub with-disp-spec : {M : Type 1} → statement M
-with-disp-spec = tie.close (tie.spec disp-requires form-requires returns)
+with-disp-spec = tie.close (tie.spec (search needs) (search needs) returns)

@@ -3,14 +3,8 @@ use borrow.Author.Needs.{needs}
 use Rattle.ldst.proofs.mem.with_index.Statement.{statement}
 use Rattle.ldst.proofs.mem.with_index.Tie as tie
 
-reg-at-requires : tie.Need-reg-at-requires
-reg-at-requires c κs = search needs
-
-form-requires : tie.Need-form-requires
-form-requires c κs = search needs
-
 returns : tie.Need-returns
 returns c = simp (c .form .ensures, c .before .reg-at .ensures)
 
 pub with-index-spec : {M : Type 1} → statement M
-with-index-spec = tie.close (tie.spec reg-at-requires form-requires returns)
+with-index-spec = tie.close (tie.spec (search needs) (search needs) returns)

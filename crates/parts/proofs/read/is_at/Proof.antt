@@ -3,11 +3,8 @@ use borrow.Author.Needs.{needs}
 use Rattle.parts.proofs.read.is_at.Statement.{statement}
 use Rattle.parts.proofs.read.is_at.Tie as tie
 
-at-requires : tie.Need-at-requires
-at-requires c κs = search needs
-
 returns : tie.Need-returns
 returns c = simp (c .before .at .ensures)
 
 pub is-at-spec : {M : Type 1} → statement M
-is-at-spec = tie.close (tie.spec at-requires returns)
+is-at-spec = tie.close (tie.spec (search needs) returns)

@@ -5,35 +5,16 @@ use Rattle.rows.proofs.Leading.{lead, half-to-unprivileged, half-to-ext
 use Rattle.rows.proofs.leads.halfwords.Statement.{statement}
 use Rattle.rows.proofs.leads.halfwords.Tie as tie
 
-column-requires : tie.Need-column-requires
-column-requires c κs = search needs
-
-unprivileged-requires : tie.Need-unprivileged-requires
-unprivileged-requires c κs = search needs
-
 returns : tie.Need-returns
 returns c = lead (half-to-unprivileged _ (c .before .before .before .before .pre .0) (c .before .before .before .before .pre .1) (omega arith) (omega arith)) (c .unprivileged .ensures)
 
-extra-requires : tie.Need-extra-requires
-extra-requires c κs = search needs
-
 returns-2 : tie.Need-returns-2
 returns-2 c = lead (half-to-extra _ (c .before .before .before .before .pre .0) (c .before .before .before .before .pre .1) (omega arith) (omega arith)) (c .extra .ensures)
-
-extra-requires-2 : tie.Need-extra-requires-2
-extra-requires-2 c κs = search needs
 
 returns-3 : tie.Need-returns-3
 returns-3 c = lead (half-to-extra-above _ (c .before .before .before .pre .0) (c .before .before .before .pre .1) (omega arith)) (c .extra2 .ensures)
 
 pub halfwords-spec : {M : Type 1} → statement M
 halfwords-spec =
-    tie.close
-    (tie.spec
-    column-requires
-    unprivileged-requires
-    returns
-    extra-requires
-    returns-2
-    extra-requires-2
-    returns-3)
+    tie.close (tie.spec (search needs) (search needs) returns (search needs) returns-2
+    (search needs) returns-3)

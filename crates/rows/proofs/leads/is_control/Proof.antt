@@ -4,9 +4,6 @@ use Rattle.rows.proofs.Leading.{control-even, control-odd}
 use Rattle.rows.proofs.leads.is_control.Statement.{statement}
 use Rattle.rows.proofs.leads.is_control.Tie as tie
 
-column-requires : tie.Need-column-requires
-column-requires c κs = search needs
-
 returns : tie.Need-returns
 returns c = rw (c .before .column .ensures .0) (control-even _ (rw (c .before .column .ensures .0) at (c .if1 .taken)))
 
@@ -14,4 +11,4 @@ returns-2 : tie.Need-returns-2
 returns-2 c = control-odd _ (rw (c .before .column .ensures .0) at (c .if1 .left))
 
 pub is-control-spec : {M : Type 1} → statement M
-is-control-spec = tie.close (tie.spec column-requires returns returns-2)
+is-control-spec = tie.close (tie.spec (search needs) returns returns-2)

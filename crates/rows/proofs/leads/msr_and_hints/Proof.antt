@@ -5,18 +5,6 @@ use Rattle.rows.proofs.Leading.{lead, to-msr, to-msr-some, msr-number}
 use Rattle.rows.proofs.leads.msr_and_hints.Statement.{statement}
 use Rattle.rows.proofs.leads.msr_and_hints.Tie as tie
 
-column-requires : tie.Need-column-requires
-column-requires c κs = search needs
-
-column-requires-2 : tie.Need-column-requires-2
-column-requires-2 c κs = search needs
-
-hint-requires : tie.Need-hint-requires
-hint-requires c κs = search needs
-
-returns : tie.Need-returns
-returns c = search needs
-
 returns-2 : tie.Need-returns-2
 returns-2 c = lead (to-msr-some _ (omega arith) (rw (c .before .before .column2 .ensures .0) at (c .if2 .left))) msr-number
 
@@ -25,5 +13,5 @@ returns-3 c = lead (to-msr _ (omega arith)) msr-number
 
 pub msr-and-hints-spec : {M : Type 1} → statement M
 msr-and-hints-spec =
-    tie.close
-    (tie.spec column-requires column-requires-2 hint-requires returns returns-2 returns-3)
+    tie.close (tie.spec (search needs) (search needs) (search needs) (λ c. search needs) returns-2
+    returns-3)

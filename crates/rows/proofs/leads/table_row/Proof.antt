@@ -5,47 +5,20 @@ use Rattle.rows.proofs.Leading.{lead, to-unconditional, to-data-process
 use Rattle.rows.proofs.leads.table_row.Statement.{statement}
 use Rattle.rows.proofs.leads.table_row.Tie as tie
 
-column-requires : tie.Need-column-requires
-column-requires c κs = search needs
-
-column-requires-2 : tie.Need-column-requires-2
-column-requires-2 c κs = search needs
-
-column-requires-3 : tie.Need-column-requires-3
-column-requires-3 c κs = search needs
-
-unconditional-requires : tie.Need-unconditional-requires
-unconditional-requires c κs = search needs
-
 returns : tie.Need-returns
 returns c = lead (to-unconditional _ (omega arith)) (c .unconditional .ensures)
-
-data-processing-requires : tie.Need-data-processing-requires
-data-processing-requires c κs = search needs
 
 returns-2 : tie.Need-returns-2
 returns-2 c = lead (to-data-processing _ (λ e. omega arith) (omega arith)) (c .data-processing .ensures)
 
-load-store-requires : tie.Need-load-store-requires
-load-store-requires c κs = search needs
-
 returns-3 : tie.Need-returns-3
 returns-3 c = lead (to-load-store _ (λ e. omega arith) (omega arith)) (c .load-store .ensures)
-
-load-store-requires-2 : tie.Need-load-store-requires-2
-load-store-requires-2 c κs = search needs
 
 returns-4 : tie.Need-returns-4
 returns-4 c = lead (to-load-store-index _ (λ e. omega arith) (omega arith) (omega arith)) (c .load-store2 .ensures)
 
-media-requires : tie.Need-media-requires
-media-requires c κs = search needs
-
 returns-5 : tie.Need-returns-5
 returns-5 c = lead (to-media _ (λ e. omega arith) (omega arith) (omega arith)) (c .media .ensures)
-
-branch-and-block-requires : tie.Need-branch-and-block-requires
-branch-and-block-requires c κs = search needs
 
 returns-6 : tie.Need-returns-6
 returns-6 c = lead (to-branch-and-block _ (λ e. omega arith) (omega arith) (omega arith)) (c .branch-and-block .ensures)
@@ -55,21 +28,6 @@ returns-7 c = lead (to-coprocessor _ (λ e. omega arith) (omega arith)) coproces
 
 pub table-row-spec : {M : Type 1} → statement M
 table-row-spec =
-    tie.close
-    (tie.spec
-    column-requires
-    column-requires-2
-    column-requires-3
-    unconditional-requires
-    returns
-    data-processing-requires
-    returns-2
-    load-store-requires
-    returns-3
-    load-store-requires-2
-    returns-4
-    media-requires
-    returns-5
-    branch-and-block-requires
-    returns-6
-    returns-7)
+    tie.close (tie.spec (search needs) (search needs) (search needs) (search needs) returns
+    (search needs) returns-2 (search needs) returns-3 (search needs) returns-4 (search needs)
+    returns-5 (search needs) returns-6 returns-7)

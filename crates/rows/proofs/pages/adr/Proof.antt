@@ -5,12 +5,6 @@ use Rattle.rows.proofs.Paging.{adr-add, adr-sub, adr-stays}
 use Rattle.rows.proofs.pages.adr.Statement.{statement}
 use Rattle.rows.proofs.pages.adr.Tie as tie
 
-column-requires : tie.Need-column-requires
-column-requires c κs = search needs
-
-column-requires-2 : tie.Need-column-requires-2
-column-requires-2 c κs = search needs
-
 returns : tie.Need-returns
 returns c = adr-add _ (omega arith) (omega arith)
 
@@ -21,4 +15,4 @@ returns-3 : tie.Need-returns-3
 returns-3 c = adr-stays _ (λ e. omega arith)
 
 pub adr-spec : {M : Type 1} → statement M
-adr-spec = tie.close (tie.spec column-requires column-requires-2 returns returns-2 returns-3)
+adr-spec = tie.close (tie.spec (search needs) (search needs) returns returns-2 returns-3)

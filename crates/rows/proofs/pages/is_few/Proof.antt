@@ -6,9 +6,6 @@ use Rattle.manual.specs.A8.{fewerThanTwo}
 use Rattle.rows.proofs.pages.is_few.Statement.{statement}
 use Rattle.rows.proofs.pages.is_few.Tie as tie
 
-column-requires : tie.Need-column-requires
-column-requires c κs = search needs
-
 returns : tie.Need-returns
 unfolding fewerThanTwo
 returns c =
@@ -18,4 +15,4 @@ returns c =
     )
 
 pub is-few-spec : {M : Type 1} → statement M
-is-few-spec = tie.close (tie.spec column-requires returns)
+is-few-spec = tie.close (tie.spec (search needs) returns)

@@ -5,21 +5,6 @@ use Rattle.rows.proofs.Paging.{one-word, not-wback, not-add, not-index,
 use Rattle.rows.proofs.pages.is_one_word.Statement.{statement}
 use Rattle.rows.proofs.pages.is_one_word.Tie as tie
 
-column-requires : tie.Need-column-requires
-column-requires c κs = search needs
-
-column-requires-2 : tie.Need-column-requires-2
-column-requires-2 c κs = search needs
-
-column-requires-3 : tie.Need-column-requires-3
-column-requires-3 c κs = search needs
-
-column-requires-4 : tie.Need-column-requires-4
-column-requires-4 c κs = search needs
-
-column-requires-5 : tie.Need-column-requires-5
-column-requires-5 c κs = search needs
-
 returns : tie.Need-returns
 returns c = rw (c .before .before .before .before .column5 .ensures .0) (one-word _ _ _ _ (omega arith) (omega arith) (omega arith) (omega arith))
 
@@ -37,15 +22,5 @@ returns-5 c = not-stack _ _ _ _ (λ e. omega arith)
 
 pub is-one-word-spec : {M : Type 1} → statement M
 is-one-word-spec =
-    tie.close
-    (tie.spec
-    column-requires
-    column-requires-2
-    column-requires-3
-    column-requires-4
-    column-requires-5
-    returns
-    returns-2
-    returns-3
-    returns-4
-    returns-5)
+    tie.close (tie.spec (search needs) (search needs) (search needs) (search needs) (search needs)
+    returns returns-2 returns-3 returns-4 returns-5)

@@ -4,12 +4,6 @@ use borrow.Author.Tests.{ne-eqb}
 use Rattle.rows.proofs.pages.is_return.Statement.{statement}
 use Rattle.rows.proofs.pages.is_return.Tie as tie
 
-column-requires : tie.Need-column-requires
-column-requires c κs = search needs
-
-column-requires-2 : tie.Need-column-requires-2
-column-requires-2 c κs = search needs
-
 returns : tie.Need-returns
 returns c = rw (c .before .column2 .ensures .0) (simp (rw (c .before .before .column .ensures .0) at (c .if1 .taken)))
 
@@ -17,4 +11,4 @@ returns-2 : tie.Need-returns-2
 returns-2 c = simp (ne-eqb _ _ (rw (c .before .before .column .ensures .0) at (c .if1 .left)))
 
 pub is-return-spec : {M : Type 1} → statement M
-is-return-spec = tie.close (tie.spec column-requires column-requires-2 returns returns-2)
+is-return-spec = tie.close (tie.spec (search needs) (search needs) returns returns-2)

@@ -5,12 +5,9 @@ use Rattle.rows.proofs.Paging.{returning-is}
 use Rattle.rows.proofs.pages.is_returning.Statement.{statement}
 use Rattle.rows.proofs.pages.is_returning.Tie as tie
 
-array-read-result : tie.Need-array-read-result
-array-read-result c = search needs
-
 returns : tie.Need-returns
 unfolding titleAt
 returns c = returning-is (c .args .n) (c .pre)
 
 pub is-returning-spec : {M : Type 1} → statement M
-is-returning-spec = tie.close (tie.spec array-read-result returns)
+is-returning-spec = tie.close (tie.spec (search needs) returns)

@@ -6,15 +6,9 @@ use Rattle.tables.specs.Titles.{titleAt}
 use Rattle.rows.proofs.pages.other_page.Statement.{statement}
 use Rattle.rows.proofs.pages.other_page.Tie as tie
 
-adr-requires : tie.Need-adr-requires
-adr-requires c κs = search needs
-
 returns : tie.Need-returns
 unfolding titleAt
 returns c = rw (c .before .if1 .taken) (c .adr .ensures)
-
-is-one-word-requires : tie.Need-is-one-word-requires
-is-one-word-requires c κs = search needs
 
 returns-2 : tie.Need-returns-2
 returns-2 c = rw (c .before .before .if2 .taken) (to-push-one _ (cc))
@@ -22,26 +16,17 @@ returns-2 c = rw (c .before .before .if2 .taken) (to-push-one _ (cc))
 returns-3 : tie.Need-returns-3
 returns-3 c = rw (c .before .before .if2 .taken) (str-stays _ (cc))
 
-is-one-word-requires-2 : tie.Need-is-one-word-requires-2
-is-one-word-requires-2 c κs = search needs
-
 returns-4 : tie.Need-returns-4
 returns-4 c = rw (c .before .before .if4 .taken) (to-pop-one _ (cc))
 
 returns-5 : tie.Need-returns-5
 returns-5 c = rw (c .before .before .if4 .taken) (ldr-stays _ (cc))
 
-is-few-requires : tie.Need-is-few-requires
-is-few-requires c κs = search needs
-
 returns-6 : tie.Need-returns-6
 returns-6 c = rw (c .before .before .if6 .taken) (to-ldm _ (cc))
 
 returns-7 : tie.Need-returns-7
 returns-7 c = rw (c .before .before .if6 .taken) (pop-stays _ (cc))
-
-is-few-requires-2 : tie.Need-is-few-requires-2
-is-few-requires-2 c κs = search needs
 
 returns-8 : tie.Need-returns-8
 returns-8 c = rw (c .before .before .if8 .taken) (to-stmdb _ (cc))
@@ -54,20 +39,6 @@ returns-10 c = others-stay _ _ (omega arith) (λ e. omega arith) (λ e. omega ar
 
 pub other-page-spec : {M : Type 1} → statement M
 other-page-spec =
-    tie.close
-    (tie.spec
-    adr-requires
-    returns
-    is-one-word-requires
-    returns-2
-    returns-3
-    is-one-word-requires-2
-    returns-4
-    returns-5
-    is-few-requires
-    returns-6
-    returns-7
-    is-few-requires-2
-    returns-8
-    returns-9
+    tie.close (tie.spec (search needs) returns (search needs) returns-2 returns-3 (search needs)
+    returns-4 returns-5 (search needs) returns-6 returns-7 (search needs) returns-8 returns-9
     returns-10)

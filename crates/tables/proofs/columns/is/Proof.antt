@@ -5,9 +5,6 @@ use borrow.Author.Tests.{ne-eqb, eq-eqb}
 use Rattle.tables.proofs.columns.is.Statement.{statement}
 use Rattle.tables.proofs.columns.is.Tie as tie
 
-bits-requires : tie.Need-bits-requires
-bits-requires c κs = search needs
-
 returns : tie.Need-returns
 returns c = (rw (← (c .before .bits .ensures)) (simp (eq-eqb _ _ (c .if1 .taken))), omega arith)
 
@@ -15,4 +12,4 @@ returns-2 : tie.Need-returns-2
 returns-2 c = (rw (← (c .before .bits .ensures)) (simp (ne-eqb _ _ (c .if1 .left))), omega arith)
 
 pub is-spec : {M : Type 1} → statement M
-is-spec = tie.close (tie.spec bits-requires returns returns-2)
+is-spec = tie.close (tie.spec (search needs) returns returns-2)

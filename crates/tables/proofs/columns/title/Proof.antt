@@ -10,14 +10,8 @@ returns c = simp (lt-ltb _ _ (c .before .if1 .taken), eq-eqb _ _ (c .if2 .taken)
 returns-2 : tie.Need-returns-2
 returns-2 c = simp (lt-ltb _ _ (c .before .if1 .taken), ne-eqb _ _ (c .if2 .left))
 
-cast-result : tie.Need-cast-result
-cast-result c = search needs
-
-add-result : tie.Need-add-result
-add-result c = search needs
-
 returns-3 : tie.Need-returns-3
 returns-3 c = simp (le-ltb _ _ (c .if1 .left))
 
 pub title-spec : {M : Type 1} → statement M
-title-spec = tie.close (tie.spec returns returns-2 cast-result add-result returns-3)
+title-spec = tie.close (tie.spec returns returns-2 (search needs) (search needs) returns-3)

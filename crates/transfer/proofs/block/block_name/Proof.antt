@@ -4,18 +4,6 @@ use borrow.Author.Tests.{ne-eqb}
 use Rattle.transfer.proofs.block.block_name.Statement.{statement}
 use Rattle.transfer.proofs.block.block_name.Tie as tie
 
-bits-requires : tie.Need-bits-requires
-bits-requires c κs = search needs
-
-bit-requires : tie.Need-bit-requires
-bit-requires c κs = search needs
-
-store-name-requires : tie.Need-store-name-requires
-store-name-requires c κs = search needs
-
-load-name-requires : tie.Need-load-name-requires
-load-name-requires c κs = search needs
-
 returns : tie.Need-returns
 returns c =
     simp (
@@ -36,5 +24,5 @@ returns-2 c =
 
 pub block-name-spec : {M : Type 1} → statement M
 block-name-spec =
-    tie.close
-    (tie.spec bits-requires bit-requires store-name-requires load-name-requires returns returns-2)
+    tie.close (tie.spec (search needs) (search needs) (search needs) (search needs) returns
+    returns-2)

@@ -4,23 +4,11 @@ use borrow.Author.Tests.{ne-eqb}
 use Rattle.transfer.proofs.block.flow.Statement.{statement}
 use Rattle.transfer.proofs.block.flow.Tie as tie
 
-bit-requires : tie.Need-bit-requires
-bit-requires c κs = search needs
-
-bit-requires-2 : tie.Need-bit-requires-2
-bit-requires-2 c κs = search needs
-
-reg-at-requires : tie.Need-reg-at-requires
-reg-at-requires c κs = search needs
-
 returns : tie.Need-returns
 returns c = simp (c .if1 .taken, ← (c .before .before .before .bit .ensures))
 
 returns-2 : tie.Need-returns-2
 returns-2 c = simp (c .if2 .taken, ne-eqb _ _ (c .before .if1 .left), ← (c .before .before .before .bit2 .ensures), ← (c .before .before .before .before .bit .ensures))
-
-is-sp-requires : tie.Need-is-sp-requires
-is-sp-requires c κs = search needs
 
 returns-3 : tie.Need-returns-3
 returns-3 c = simp (c .if3 .taken, ← (rw (c .before .before .before .before .reg-at .ensures) at (c .before .is-sp .ensures)), ne-eqb _ _ (c .before .before .if2 .left), ne-eqb _ _ (c .before .before .before .if1 .left), ← (c .before .before .before .before .before .bit2 .ensures), ← (c .before .before .before .before .before .before .bit .ensures))
@@ -30,13 +18,5 @@ returns-4 c = simp (c .if3 .left, ← (rw (c .before .before .before .before .re
 
 pub flow-spec : {M : Type 1} → statement M
 flow-spec =
-    tie.close
-    (tie.spec
-    bit-requires
-    bit-requires-2
-    reg-at-requires
-    returns
-    returns-2
-    is-sp-requires
-    returns-3
-    returns-4)
+    tie.close (tie.spec (search needs) (search needs) (search needs) returns returns-2
+    (search needs) returns-3 returns-4)

@@ -7,18 +7,6 @@ use Rattle.transfer.specs.Block.{stackOf}
 use Rattle.transfer.proofs.block.is_stack.Statement.{statement}
 use Rattle.transfer.proofs.block.is_stack.Tie as tie
 
-reg-at-requires : tie.Need-reg-at-requires
-reg-at-requires c κs = search needs
-
-bit-requires : tie.Need-bit-requires
-bit-requires c κs = search needs
-
-bits-requires : tie.Need-bits-requires
-bits-requires c κs = search needs
-
-is-sp-requires : tie.Need-is-sp-requires
-is-sp-requires c κs = search needs
-
 returns : tie.Need-returns
 unfolding stackOf
 returns c = simp (ones-in 16 (c .before .before .before .bits .result) (rw (c .before .before .before .bits .ensures) (small _ 0 16)), c .if2 .taken, c .before .if1 .taken, ← (rw (c .before .before .before .before .before .reg-at .ensures) at (c .before .before .is-sp .ensures)), ← (c .before .before .before .bits .ensures), ← (c .before .before .before .before .bit .ensures))
@@ -33,12 +21,5 @@ returns-3 c = simp (c .if1 .left, ← (rw (c .before .before .before .before .re
 
 pub is-stack-spec : {M : Type 1} → statement M
 is-stack-spec =
-    tie.close
-    (tie.spec
-    reg-at-requires
-    bit-requires
-    bits-requires
-    is-sp-requires
-    returns
-    returns-2
-    returns-3)
+    tie.close (tie.spec (search needs) (search needs) (search needs) (search needs) returns
+    returns-2 returns-3)

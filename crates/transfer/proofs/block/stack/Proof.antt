@@ -4,24 +4,6 @@ use borrow.Author.Tests.{ne-eqb}
 use Rattle.transfer.proofs.block.stack.Statement.{statement}
 use Rattle.transfer.proofs.block.stack.Tie as tie
 
-bits-requires : tie.Need-bits-requires
-bits-requires c κs = search needs
-
-bit-requires : tie.Need-bit-requires
-bit-requires c κs = search needs
-
-only-list-requires : tie.Need-only-list-requires
-only-list-requires c κs = search needs
-
-multiple-requires : tie.Need-multiple-requires
-multiple-requires c κs = search needs
-
-only-list-requires-2 : tie.Need-only-list-requires-2
-only-list-requires-2 c κs = search needs
-
-multiple-requires-2 : tie.Need-multiple-requires-2
-multiple-requires-2 c κs = search needs
-
 returns : tie.Need-returns
 returns c =
     simp (
@@ -64,15 +46,5 @@ returns-4 c =
 
 pub stack-spec : {M : Type 1} → statement M
 stack-spec =
-    tie.close
-    (tie.spec
-    bits-requires
-    bit-requires
-    only-list-requires
-    multiple-requires
-    only-list-requires-2
-    multiple-requires-2
-    returns
-    returns-2
-    returns-3
-    returns-4)
+    tie.close (tie.spec (search needs) (search needs) (search needs) (search needs) (search needs)
+    (search needs) returns returns-2 returns-3 returns-4)

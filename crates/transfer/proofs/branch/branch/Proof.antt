@@ -4,29 +4,8 @@ use borrow.Author.Tests.{ne-eqb}
 use Rattle.transfer.proofs.branch.branch.Statement.{statement}
 use Rattle.transfer.proofs.branch.branch.Tie as tie
 
-branch-target-requires : tie.Need-branch-target-requires
-branch-target-requires c κs = search needs
-
-bit-requires : tie.Need-bit-requires
-bit-requires c κs = search needs
-
-cond-of-requires : tie.Need-cond-of-requires
-cond-of-requires c κs = search needs
-
-going-requires : tie.Need-going-requires
-going-requires c κs = search needs
-
 returns : tie.Need-returns
 returns c = simp (c .going .ensures, c .before .if1 .taken, ← (c .before .before .before .bit .ensures), c .before .before .before .before .branch-target .ensures)
-
-is-al-requires : tie.Need-is-al-requires
-is-al-requires c κs = search needs
-
-going-requires-2 : tie.Need-going-requires-2
-going-requires-2 c κs = search needs
-
-going-requires-3 : tie.Need-going-requires-3
-going-requires-3 c κs = search needs
 
 returns-2 : tie.Need-returns-2
 returns-2 c = simp (c .going2 .ensures, c .before .if2 .taken, ← (rw (c .before .before .before .before .cond-of .ensures) at (c .before .before .is-al .ensures)), ne-eqb _ _ (c .before .before .before .if1 .left), ← (c .before .before .before .before .before .bit .ensures), c .before .before .before .before .before .before .branch-target .ensures)
@@ -36,15 +15,5 @@ returns-3 c = simp (c .going3 .ensures, c .before .if2 .left, ← (rw (c .before
 
 pub branch-spec : {M : Type 1} → statement M
 branch-spec =
-    tie.close
-    (tie.spec
-    branch-target-requires
-    bit-requires
-    cond-of-requires
-    going-requires
-    returns
-    is-al-requires
-    going-requires-2
-    going-requires-3
-    returns-2
-    returns-3)
+    tie.close (tie.spec (search needs) (search needs) (search needs) (search needs) returns
+    (search needs) (search needs) (search needs) returns-2 returns-3)

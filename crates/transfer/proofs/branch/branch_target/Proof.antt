@@ -10,9 +10,6 @@ use Rattle.transfer.specs.Branch.{targetFrom}
 use Rattle.transfer.proofs.branch.branch_target.Statement.{statement}
 use Rattle.transfer.proofs.branch.branch_target.Tie as tie
 
-bits-requires : tie.Need-bits-requires
-bits-requires c κs = search needs
-
 offset : (c : tie.After-bits) → c .bits .result < 16777216
 offset c = rw (c .bits .ensures) (small _ _ 24)
 
@@ -21,15 +18,6 @@ mul-sext c = omega (arith, offset c)
 
 sext-requires : tie.Need-sext-requires
 sext-requires c κs = omega (arith, offset c)
-
-add-wrapping-add-u32 : tie.Need-add-wrapping-add-u32
-add-wrapping-add-u32 c = search needs
-
-wrapping-add-u32-requires : tie.Need-wrapping-add-u32-requires
-wrapping-add-u32-requires c κs = search needs
-
-target-requires : tie.Need-target-requires
-target-requires c κs = search needs
 
 -- the sums wrap to the same
 wraps : (addr off extra : ℕ) → (addr + (8 + extra + off) % 2 ^ 32) % 2 ^ 32 ≡ (addr + 8 + off + extra) % 2 ^ 32
@@ -51,12 +39,5 @@ returns c =
 
 pub branch-target-spec : {M : Type 1} → statement M
 branch-target-spec =
-    tie.close
-    (tie.spec
-    bits-requires
-    mul-sext
-    sext-requires
-    add-wrapping-add-u32
-    wrapping-add-u32-requires
-    target-requires
-    returns)
+    tie.close (tie.spec (search needs) mul-sext sext-requires (search needs) (search needs)
+    (search needs) returns)

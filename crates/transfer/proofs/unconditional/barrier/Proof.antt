@@ -4,27 +4,6 @@ use borrow.Author.Tests.{ne-eqb}
 use Rattle.transfer.proofs.unconditional.barrier.Statement.{statement}
 use Rattle.transfer.proofs.unconditional.barrier.Tie as tie
 
-bits-requires : tie.Need-bits-requires
-bits-requires c κs = search needs
-
-at-requires : tie.Need-at-requires
-at-requires c κs = search needs
-
-accept-requires : tie.Need-accept-requires
-accept-requires c κs = search needs
-
-optioned-requires : tie.Need-optioned-requires
-optioned-requires c κs = search needs
-
-optioned-requires-2 : tie.Need-optioned-requires-2
-optioned-requires-2 c κs = search needs
-
-optioned-requires-3 : tie.Need-optioned-requires-3
-optioned-requires-3 c κs = search needs
-
-refuse-requires : tie.Need-refuse-requires
-refuse-requires c κs = search needs
-
 returns : tie.Need-returns
 returns c =
     simp (
@@ -56,17 +35,5 @@ returns-5 c =
 
 pub barrier-spec : {M : Type 1} → statement M
 barrier-spec =
-    tie.close
-    (tie.spec
-    bits-requires
-    at-requires
-    accept-requires
-    optioned-requires
-    optioned-requires-2
-    optioned-requires-3
-    refuse-requires
-    returns
-    returns-2
-    returns-3
-    returns-4
-    returns-5)
+    tie.close (tie.spec (search needs) (search needs) (search needs) (search needs) (search needs)
+    (search needs) (search needs) returns returns-2 returns-3 returns-4 returns-5)

@@ -6,9 +6,6 @@ use Rattle.word.specs.Field.{small}
 use Rattle.transfer.proofs.unconditional.blx.Statement.{statement}
 use Rattle.transfer.proofs.unconditional.blx.Tie as tie
 
-bit-requires : tie.Need-bit-requires
-bit-requires c κs = search needs
-
 half : (c : tie.After-bit) → c .bit .result < 2
 half c = rw (c .bit .ensures) (small _ 24 1)
 
@@ -18,13 +15,10 @@ mul-branch-target c = omega (arith, half c)
 branch-target-requires : tie.Need-branch-target-requires
 branch-target-requires c κs = omega (arith, half c)
 
-going-requires : tie.Need-going-requires
-going-requires c κs = search needs
-
 returns : tie.Need-returns
 returns c = simp (c .going .ensures, c .before .branch-target .ensures, ← (c .before .before .bit .ensures))
 
 pub blx-spec : {M : Type 1} → statement M
 blx-spec =
-    tie.close
-    (tie.spec bit-requires mul-branch-target branch-target-requires going-requires returns)
+    tie.close (tie.spec (search needs) mul-branch-target branch-target-requires (search needs)
+    returns)

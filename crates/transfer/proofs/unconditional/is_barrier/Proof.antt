@@ -4,12 +4,9 @@ use Rattle.transfer.specs.Unconditional.{barrierSlot}
 use Rattle.transfer.proofs.unconditional.is_barrier.Statement.{statement}
 use Rattle.transfer.proofs.unconditional.is_barrier.Tie as tie
 
-bits-requires : tie.Need-bits-requires
-bits-requires c κs = search needs
-
 returns : tie.Need-returns
 unfolding barrierSlot
 returns c = simp (← (c .bits .ensures))
 
 pub is-barrier-spec : {M : Type 1} → statement M
-is-barrier-spec = tie.close (tie.spec bits-requires returns)
+is-barrier-spec = tie.close (tie.spec (search needs) returns)

@@ -5,15 +5,6 @@ use Rattle.transfer.specs.Unconditional.{preloadSlot}
 use Rattle.transfer.proofs.unconditional.is_preload.Statement.{statement}
 use Rattle.transfer.proofs.unconditional.is_preload.Tie as tie
 
-bits-requires : tie.Need-bits-requires
-bits-requires c κs = search needs
-
-bits-requires-2 : tie.Need-bits-requires-2
-bits-requires-2 c κs = search needs
-
-bits-requires-3 : tie.Need-bits-requires-3
-bits-requires-3 c κs = search needs
-
 returns : tie.Need-returns
 unfolding preloadSlot
 returns c =
@@ -48,4 +39,4 @@ returns-3 c =
 
 pub is-preload-spec : {M : Type 1} → statement M
 is-preload-spec =
-    tie.close (tie.spec bits-requires bits-requires-2 bits-requires-3 returns returns-2 returns-3)
+    tie.close (tie.spec (search needs) (search needs) (search needs) returns returns-2 returns-3)

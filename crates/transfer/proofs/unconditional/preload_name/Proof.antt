@@ -4,9 +4,6 @@ use borrow.Author.Tests.{ne-eqb}
 use Rattle.transfer.proofs.unconditional.preload_name.Statement.{statement}
 use Rattle.transfer.proofs.unconditional.preload_name.Tie as tie
 
-bit-requires : tie.Need-bit-requires
-bit-requires c κs = search needs
-
 returns : tie.Need-returns
 returns c = simp (c .if1 .taken, ← (c .before .bit .ensures))
 
@@ -14,4 +11,4 @@ returns-2 : tie.Need-returns-2
 returns-2 c = simp (ne-eqb _ _ (c .if1 .left), ← (c .before .bit .ensures))
 
 pub preload-name-spec : {M : Type 1} → statement M
-preload-name-spec = tie.close (tie.spec bit-requires returns returns-2)
+preload-name-spec = tie.close (tie.spec (search needs) returns returns-2)
