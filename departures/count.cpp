@@ -13,7 +13,7 @@ extern "C" uint16_t brassdozen_manual_row(uint32_t word);
 
 using Rows = std::set<std::string>;
 
-// crates/tables/specs/Titles.antt, and the list of refused rows of crates/manual/specs/A8.antt
+// crates/manual_tables/specs/Titles.antt, and the list of refused rows of crates/manual/specs/A8.antt
 static const std::vector<std::string> titles = {
 #include "titles.inc"
 };

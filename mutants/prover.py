@@ -53,6 +53,8 @@ def faults(said):
     found = []
     for path, need, message in ERROR.findall(said):
         m = re.fullmatch(r"proofs/\+?(.*)/Proof\.antt", path)
+        # a need that is proved in the last line is named by the message
+        need = (need.endswith("-spec") and re.search(r"Need-([\w-]+)", message) or ["", need])[1]
         if not FOLLOWS.search(message):
             kind = "text" if NAMES.search(message) else "theorem" if not m else "safety" if SAFETY.match(need) else "contract"
             found.append((m[1].replace("/", "::") if m else path, need, kind))
@@ -107,15 +109,20 @@ def mentions(text, names):
 class Prover:
     def __init__(self, work, logs):
         self.work, self.logs, self.order = work, logs, crates()
-        self.proved, self.proving = set(), threading.Lock()
+        self.proved, self.proving = set(), {crate: threading.Lock() for crate in self.order}
+        # every crate as a library first, so that no two checks make the same one
+        self.rt("check", r"^rt: ")
+
+    def rt(self, verb, said, *crates):
+        done = subprocess.run(["rt", verb, *crates], cwd=ROOT, stdout=subprocess.PIPE, stderr=subprocess.STDOUT, text=True)
+        if done.returncode or not re.search(said, done.stdout, re.M):
+            sys.exit(f"mutants: not proved as it stands: rt {verb} {' '.join(crates)}\n{done.stdout[-2000:]}")
 
     def prove(self, crate):
-        """Has a crate proved as it stands, once, with what it depends on, and gives the folder that holds what was checked of it."""
-        with self.proving:
+        """Has a crate proved as it stands, once, and gives the folder that holds what was checked of it."""
+        with self.proving[crate]:
             if crate not in self.proved:
-                done = subprocess.run(["rt", "dev", crate], cwd=ROOT, stdout=subprocess.PIPE, stderr=subprocess.STDOUT, text=True)
-                if done.returncode or not re.search(r"^logic=proved", done.stdout, re.M):
-                    sys.exit(f"mutants: {crate} is not proved as it stands:\n{done.stdout[-2000:]}")
+                self.rt("dev", r"^logic=proved", crate)
                 self.proved.add(crate)
         return TARGET / "inc" / crate
 

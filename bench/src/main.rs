@@ -167,11 +167,11 @@ fn others(input: &Words) {
 
 /// The library's own calls, decoding to a row and encoding from one. So few words that their rows stay in the cache.
 fn library(what: &str, words: &[u32]) {
-    let mut rows = vec![[0; 49]; words.len()];
+    let mut rows = vec![[0; proved::ROW]; words.len()];
     for (word, row) in words.iter().zip(&mut rows) {
         assert_eq!(proved::decoded_to(*word, ADDRESS, row), 0);
     }
-    let mut row = [0; 49];
+    let mut row = [0; proved::ROW];
     let mut next = rows.iter().cycle();
     let [decoded, encoded] = times(
         words,

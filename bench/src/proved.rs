@@ -1,4 +1,4 @@
-//! The proved code: what the crates `timed`, `trip` and `brassdozen` have to call.
+//! The proved code: what the crates `a32_timed`, `encode_trip` and `brassdozen` have to call.
 
 mod linked {
     unsafe extern "C" {
@@ -19,8 +19,11 @@ mod linked {
 
 pub use linked::{brassdozen_home as homed, decoded, trip};
 
+/// How many numbers an instruction value is.
+pub const ROW: usize = 49;
+
 /// An instruction value as the library's numbers.
-pub type Row = [u64; 49];
+pub type Row = [u64; ROW];
 
 /// The refusal of a word, whose answer is written to `row` if it has one.
 pub fn decoded_to(word: u32, address: u64, row: &mut Row) -> u8 {

@@ -12,7 +12,7 @@
 #include <tuple>
 #include <vector>
 
-// crates/tables/specs/Titles.antt
+// crates/manual_tables/specs/Titles.antt
 static const char *const titles[] = {
 #include "titles.inc"
 };

@@ -1,4 +1,4 @@
-// The twin of the definition, proved: the number of a word's row, its place in crates/tables/specs/Titles.antt.
+// The twin of the definition, proved: the number of a word's row, its place in crates/manual_tables/specs/Titles.antt.
 #pragma once
 #include <cstdint>
 

@@ -6,7 +6,7 @@ use std::iter::Sum;
 use crate::cores::on_every_core;
 use crate::proved::Proved;
 use crate::reports::Reports;
-use crate::row::{CONDITION, FLOW, NAME, Row};
+use crate::row::{CONDITION, FLOW, NAME, ROW, Row};
 use crate::words::Block;
 
 /// The condition that is read, and those that are held beside it.
@@ -50,7 +50,7 @@ pub fn conditions(proved: Proved, address: u64, blocks: &[Block]) -> (Tally, u64
     let tally = on_every_core(blocks, |_, block, tally: &mut Tally| {
         for word in block.words().filter(|word| word >> 26 & 0b11 != 0b11) {
             let word = word & 0x0fff_ffff;
-            let mut read: Row = [0; 49];
+            let mut read: Row = [0; ROW];
             let refusal = (proved.decode)(word | ALWAYS << 28, address, &mut read);
             if refusal == 0 {
                 tally.accepted += 1;
@@ -58,7 +58,7 @@ pub fn conditions(proved: Proved, address: u64, blocks: &[Block]) -> (Tally, u64
                 tally.refused += 1;
             }
             for condition in 0..ALWAYS {
-                let mut beside: Row = [0; 49];
+                let mut beside: Row = [0; ROW];
                 let word = word | condition << 28;
                 tally.beside += 1;
                 if (proved.decode)(word, address, &mut beside) != refusal

@@ -4,7 +4,7 @@ use std::fmt::{self, Display, Formatter};
 
 use crate::row::Row;
 
-/// What the crates `digest`, `trip` and `brassdozen` have to call.
+/// What the crates `a32_digest`, `encode_trip` and `brassdozen` have to call.
 #[derive(Clone, Copy)]
 pub struct Proved {
     /// Folds the answers to `count` words from `first` on, all at `address`, into `h`, which is

@@ -7,7 +7,7 @@ use crate::answer::{Index, Instruction, Memory, Operand, PLACES};
 const HEAD: usize = 5;
 const OPERAND: usize = 11;
 
-const ROW: usize = HEAD + PLACES * OPERAND;
+pub const ROW: usize = HEAD + PLACES * OPERAND;
 
 pub type Row = [u64; ROW];
 

@@ -94,7 +94,7 @@ fn stored_words() -> Vec<(u64, u32, u64, String)> {
 }
 
 /// The numbers of an answer in the order in which a digest has them
-/// (`crates/digest/specs/Numbers.antt`), taken from its row.
+/// (`crates/a32_digest/specs/Numbers.antt`), taken from its row.
 fn digested_numbers(row: &[u64; ROW]) -> Vec<u64> {
     let mut numbers = vec![0];
     numbers.extend(&row[..5]);

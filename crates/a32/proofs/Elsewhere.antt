@@ -10,10 +10,11 @@ use Rattle.word.specs.Field.{field}
 use Rattle.insn.specs.Answer.{insnOf, accepted, refused}
 use Rattle.insn.specs.declared.Decoded.{Decoded}
 use Rattle.insn.specs.declared.Insn.{Insn}
-use Rattle.transfer.specs.Branch.{targetFrom}
+use Rattle.a32_transfer.specs.Branch.{targetFrom}
 use Rattle.a32.specs.Decode.{decodeOf}
 use Rattle.a32.specs.Elsewhere.{at, onward, moved}
-use Rattle.a32.proofs.Groups.{Group, unconditional, coprocessor, misc, halfword, dp-reg, multiply, sync, extra-ldst, dp-imm, ldst, ldst-index, media, block, branch, reaches, by-group}
+use Rattle.a32.proofs.Groups.{Group, unconditional, coprocessor, misc, halfword, dp-reg, multiply, sync, extra-ldst, dp-imm, ldst, ldst-index}
+use Rattle.a32.proofs.Groups.{media, block, branch, reaches, by-group}
 
 -- an address passes through a choice, a refusal stays as it is, and an instruction is given it
 through : (b : ℕ) (t : Bool) (x y : Decoded) → at b (pick t x y) ≡ pick t (at b x) (at b y)
@@ -21,32 +22,26 @@ through b true x y = refl
 through b false x y = refl
 
 no-row-at : (b : ℕ) → at b (refused 3) ≡ refused 3
-unfolding at
-no-row-at b = refl
+no-row-at b = unfold at in refl
 
 coprocessor-at : (b : ℕ) → at b (refused 2) ≡ refused 2
-unfolding at
-coprocessor-at b = refl
+coprocessor-at b = unfold at in refl
 
 accepted-at : (b : ℕ) (i : Insn) → at b (accepted i) ≡ accepted (insnOf b (i .name) (i .cond) (i .flow) (i .ops))
-unfolding at
-accepted-at b i = refl
+accepted-at b i = unfold at in refl
 
 ruleset laws = (through, no-row-at, coprocessor-at, accepted-at)
 
 -- its parts
 refusal-at : (b : ℕ) (d : Decoded) → (at b d) .refusal ≡ d .refusal
-unfolding at
-refusal-at b d = by-test (eqb (d .refusal) 0) (λ e. simp e (sym (eqb-true (d .refusal) 0 e))) (λ e. simp e)
+refusal-at b d = unfold at in by-test (eqb (d .refusal) 0) (λ e. simp e (sym (eqb-true (d .refusal) 0 e))) (λ e. simp e)
 
 address-at : (b : ℕ) (d : Decoded) → d .refusal ≡ 0 → (at b d) .insn .addr ≡ b
-unfolding at
-address-at b d ok = simp ok
+address-at b d ok = unfold at in simp ok
 
 -- a target goes with the address that it is reckoned from
 goes-along : (w a b extra : ℕ) → onward a b (targetFrom w a extra) ≡ targetFrom w b extra
-unfolding targetFrom
-goes-along w a b extra = omega arith
+goes-along w a b extra = unfold targetFrom in omega arith
 
 module _ (w a b : ℕ) where
   -- but for branches, the answer at another address is the same answer with that address
@@ -88,8 +83,7 @@ module _ (w a b : ℕ) where
       of group goes = reaches w group b ∙ goes ∙ ap (moved a b) (sym (reaches w group a))
 
 branch-accepted : (w addr : ℕ) → field w 25 3 ≡ 5 → (decodeOf w addr) .refusal ≡ 0
-unfolding moved
-branch-accepted w addr g = ap (λ (d : Decoded). d .refusal) (target-elsewhere w addr addr g)
+branch-accepted w addr g = unfold moved in ap (λ (d : Decoded). d .refusal) (target-elsewhere w addr addr g)
 
 -- a word is refused at every address or at none, with one number
 pub refused-anywhere : (w a b : ℕ) → (decodeOf w a) .refusal ≡ (decodeOf w b) .refusal
@@ -100,8 +94,7 @@ refused-anywhere w a b =
 
 -- an accepted answer holds the address that it was asked at
 pub keeps-address : (w addr : ℕ) → (decodeOf w addr) .refusal ≡ 0 → (decodeOf w addr) .insn .addr ≡ addr
-unfolding moved
-keeps-address w addr ok =
+keeps-address w addr ok = unfold moved in
     by-test (eqb (field w 25 3) 5)
     (λ g. ap (λ (d : Decoded). d .insn .addr) (target-elsewhere w addr addr (eqb-true _ 5 g)))
     (λ other. ap (λ (d : Decoded). d .insn .addr) (same-elsewhere w addr addr other) ∙ address-at addr (decodeOf w addr) ok)

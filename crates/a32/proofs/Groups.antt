@@ -10,18 +10,18 @@ use Rattle.word.specs.Choice.{by-test}
 use Rattle.word.specs.Field.{field, small, splits}
 use Rattle.insn.specs.Answer.{refused}
 use Rattle.insn.specs.declared.Decoded.{Decoded}
-use Rattle.dp.specs.DpReg.{dpRegOf}
-use Rattle.dp.specs.DpImm.{dpImmOf}
-use Rattle.misc.specs.Misc.{miscOf}
-use Rattle.multiply.specs.Halfword.{halfwordOf}
-use Rattle.multiply.specs.Multiply.{multiplyOf}
-use Rattle.multiply.specs.Sync.{syncOf}
-use Rattle.ldst.specs.ExtraLdst.{extraLdstOf}
-use Rattle.ldst.specs.Ldst.{ldstOf}
-use Rattle.media.specs.Media.{mediaOf}
-use Rattle.transfer.specs.Block.{blockOf}
-use Rattle.transfer.specs.Branch.{branchOf}
-use Rattle.transfer.specs.Unconditional.{unconditionalOf}
+use Rattle.a32_dp.specs.DpReg.{dpRegOf}
+use Rattle.a32_dp.specs.DpImm.{dpImmOf}
+use Rattle.a32_misc.specs.Misc.{miscOf}
+use Rattle.a32_multiply.specs.Halfword.{halfwordOf}
+use Rattle.a32_multiply.specs.Multiply.{multiplyOf}
+use Rattle.a32_multiply.specs.Sync.{syncOf}
+use Rattle.a32_ldst.specs.ExtraLdst.{extraLdstOf}
+use Rattle.a32_ldst.specs.Ldst.{ldstOf}
+use Rattle.a32_media.specs.Media.{mediaOf}
+use Rattle.a32_transfer.specs.Block.{blockOf}
+use Rattle.a32_transfer.specs.Branch.{branchOf}
+use Rattle.a32_transfer.specs.Unconditional.{unconditionalOf}
 use Rattle.a32.specs.Decode.{controlOf, plainOf, extraOf, dpMiscOf, groupOf, decodeOf}
 
 -- a condition below 15
@@ -71,10 +71,8 @@ module _ (w : ℕ) where
       bit-cases w 4
       (λ four. simp (c, top 0 g (omega arith) (omega arith), g, is, four))
       (λ four. simp (c, top 0 g (omega arith) (omega arith), g, is, four, seven four))
-  reaches (multiply c g seven four kind exclusive) addr =
-      simp (c, top 0 g (omega arith) (omega arith), g, four, seven, kind, exclusive)
-  reaches (sync c g seven four kind exclusive) addr =
-      simp (c, top 0 g (omega arith) (omega arith), g, four, seven, kind, exclusive)
+  reaches (multiply c g seven four kind exclusive) addr = simp (c, top 0 g (omega arith) (omega arith), g, four, seven, kind, exclusive)
+  reaches (sync c g seven four kind exclusive) addr = simp (c, top 0 g (omega arith) (omega arith), g, four, seven, kind, exclusive)
   reaches (extra-ldst c g seven four kind) addr = simp (c, top 0 g (omega arith) (omega arith), g, four, seven, kind)
   reaches (dp-imm c g) addr = simp (c, top 0 g (omega arith) (omega arith), g)
   reaches (ldst c g) addr = simp (c, top 1 g (omega arith) (omega arith), g)
@@ -120,8 +118,11 @@ module _ (w : ℕ) where
         by-test (eqb (field w 25 3) 3)
         (λ e. bit-cases w 4 (λ four. (ldstOf, ldst-index c (eqb-true _ 3 e) four)) (λ four. (mediaOf, media c (eqb-true _ 3 e) four))) λ n3.
         by-test (eqb (field w 25 3) 4) (λ e. (blockOf, block c (eqb-true _ 4 e))) λ n4.
-        by-test (eqb (field w 25 3) 5) (λ e. (branchOf, branch c (eqb-true _ 5 e))) λ n5.
-        ((λ v addr. refused 2), coprocessor c (above (eqb-false _ 0 n0) (eqb-false _ 1 n1) (eqb-false _ 2 n2) (eqb-false _ 3 n3) (eqb-false _ 4 n4) (eqb-false _ 5 n5)))
+        by-test (eqb (field w 25 3) 5) (λ e. (branchOf, branch c (eqb-true _ 5 e))) λ n5. (
+          (λ v addr. refused 2),
+          coprocessor c (above (eqb-false _ 0 n0) (eqb-false _ 1 n1) (eqb-false _ 2 n2) (eqb-false _ 3 n3) (eqb-false _ 4 n4)
+              (eqb-false _ 5 n5)),
+        )
       where
         above : (field w 25 3 ≡ 0 → ⊥) → (field w 25 3 ≡ 1 → ⊥) → (field w 25 3 ≡ 2 → ⊥) → (field w 25 3 ≡ 3 → ⊥) → (field w 25 3 ≡ 4 → ⊥)
             → (field w 25 3 ≡ 5 → ⊥) → field w 26 2 ≡ 3

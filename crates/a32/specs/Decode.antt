@@ -7,21 +7,22 @@ use lib.ListN.{length}
 use Rattle.word.specs.Bytes.{wordAt}
 use Rattle.word.specs.Field.{field}
 use Rattle.word.specs.Choice.{pick, both}
+use Rattle.word.specs.Refusal.{SHORT, COPROCESSOR}
 use Rattle.insn.specs.Answer.{refused}
 use Rattle.insn.specs.declared.Decoded.{Decoded}
-use Rattle.arm.specs.Row.{among, _⇒_}
-use Rattle.dp.specs.DpReg.{dpRegOf}
-use Rattle.dp.specs.DpImm.{dpImmOf}
-use Rattle.misc.specs.Misc.{miscOf}
-use Rattle.multiply.specs.Halfword.{halfwordOf}
-use Rattle.multiply.specs.Multiply.{multiplyOf}
-use Rattle.multiply.specs.Sync.{syncOf}
-use Rattle.ldst.specs.ExtraLdst.{extraLdstOf}
-use Rattle.ldst.specs.Ldst.{ldstOf}
-use Rattle.media.specs.Media.{mediaOf}
-use Rattle.transfer.specs.Block.{blockOf}
-use Rattle.transfer.specs.Branch.{branchOf}
-use Rattle.transfer.specs.Unconditional.{unconditionalOf}
+use Rattle.a32_shared.specs.Row.{among, _⇒_}
+use Rattle.a32_dp.specs.DpReg.{dpRegOf}
+use Rattle.a32_dp.specs.DpImm.{dpImmOf}
+use Rattle.a32_misc.specs.Misc.{miscOf}
+use Rattle.a32_multiply.specs.Halfword.{halfwordOf}
+use Rattle.a32_multiply.specs.Multiply.{multiplyOf}
+use Rattle.a32_multiply.specs.Sync.{syncOf}
+use Rattle.a32_ldst.specs.ExtraLdst.{extraLdstOf}
+use Rattle.a32_ldst.specs.Ldst.{ldstOf}
+use Rattle.a32_media.specs.Media.{mediaOf}
+use Rattle.a32_transfer.specs.Block.{blockOf}
+use Rattle.a32_transfer.specs.Branch.{branchOf}
+use Rattle.a32_transfer.specs.Unconditional.{unconditionalOf}
 
 -- "control (24:23 = 10 and bit 20 clear)"
 unfoldable pub controlOf : ℕ → Bool
@@ -61,8 +62,8 @@ groupOf w addr =
 unfoldable pub decodeOf : ℕ → ℕ → Decoded
 decodeOf w addr =
     pick (eqb (field w 28 4) 15) (unconditionalOf w addr)
-    (pick (eqb (field w 26 2) 3) (refused 2) (groupOf w addr))
+    (pick (eqb (field w 26 2) 3) (refused COPROCESSOR) (groupOf w addr))
 
 -- refusal 1: "fewer than 4 (more than 4: the first four, low byte first)"
 abbrev pub decodeBytesOf : List ℕ → ℕ → Decoded
-decodeBytesOf bytes addr = pick (ltb (length bytes) 4) (refused 1) (decodeOf (wordAt bytes 0) addr)
+decodeBytesOf bytes addr = pick (ltb (length bytes) 4) (refused SHORT) (decodeOf (wordAt bytes 0) addr)

@@ -2,32 +2,28 @@
 //!
 //! The top-level split follows the architecture reference manual's A5 decode tree on bits 27:25, and each group below is
 //! one of its tables. Condition 15 is not a condition at all but a second instruction space, so it leaves first.
-use arm::NO_ROW;
-use dp::dp_imm::dp_imm;
-use dp::dp_reg::dp_reg;
+use a32_dp::dp_imm::dp_imm;
+use a32_dp::dp_reg::dp_reg;
+use a32_ldst::extra_ldst::extra_ldst;
+use a32_ldst::ldst::ldst;
+use a32_media::media;
+use a32_misc::misc;
+use a32_multiply::halfword;
+use a32_multiply::multiply;
+use a32_multiply::sync;
+use a32_transfer::block::block;
+use a32_transfer::branch::branch;
+use a32_transfer::unconditional::unconditional;
 use insn::Decoded;
 use insn::refuse;
-use ldst::extra_ldst::extra_ldst;
-use ldst::ldst::ldst;
-use media::media;
-use misc::misc;
-use multiply::halfword;
-use multiply::multiply;
-use multiply::sync;
-use transfer::block::block;
-use transfer::branch::branch;
-use transfer::unconditional::unconditional;
 use word::bit;
 use word::bits;
+use word::refusal::COPROCESSOR;
+use word::refusal::NO_ROW;
+use word::refusal::SHORT;
 use word::word_at;
 ghost use mathlib.Core.Path.{_≡_};
 ghost use Rattle.a32.specs.Decode.{decodeOf, decodeBytesOf, groupOf, dpMiscOf, plainOf, extraOf, controlOf};
-
-/// The refusal of fewer bytes than a word has.
-pub const SHORT: u8 = 1;
-
-/// The refusal of the coprocessors' space, the floating point unit's among it.
-pub const COPROCESSOR: u8 = 2;
 
 /// Decode one A32 instruction from its bytes.
 pub fn decode_bytes(bytes: &[u8], addr: u64) -> Decoded

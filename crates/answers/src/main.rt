@@ -1,6 +1,6 @@
 //! Reads records of an address and a word from standard input, low byte first, and prints of each the address, a digest of the
 //! whole answer, and the line of the listing.
-use digest::digest;
+use a32_digest::digest;
 use libc::STDIN_FILENO;
 use libc::STDOUT_FILENO;
 use line::line;

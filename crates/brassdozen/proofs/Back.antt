@@ -10,22 +10,23 @@ use borrow.Author.Tests.{eqb-true, eq-eqb}
 use lib.Dec.{eqb, leb}
 use lib.ListN.{length, take, drop}
 use Rattle.word.specs.Choice.{pick}
-use Rattle.insn.specs.Answer.{insnOf}
+use Rattle.insn.specs.Answer.{PLACES}
 use Rattle.insn.specs.declared.Decoded.{Decoded}
 use Rattle.insn.specs.declared.Insn.{Insn}
-use Rattle.insn.specs.declared.Place.{Place}
 use Rattle.a32.specs.Decode.{decodeOf}
-use Rattle.home.specs.Home.{homeOf}
-use Rattle.home.specs.Word.{wordOf}
+use Rattle.encode_home.specs.Home.{homeOf}
+use Rattle.encode_home.specs.Word.{wordOf}
 use Rattle.a32.proofs.Elsewhere.{keeps-address}
-use Rattle.home.proofs.Same.{leads-home, same-answer}
-use Rattle.value.specs.Value.{insnFrom}
-use Rattle.packed.specs.Packed.{packed}
+use Rattle.encode_home.proofs.Same.{leads-home, same-answer}
+use Rattle.insn_value.specs.Value.{insnFrom}
+use Rattle.word_packed.specs.Packed.{packed}
 use Rattle.text.specs.Text.{written}
 use Rattle.text.specs.Fits.{answerOf, lastOf}
 use Rattle.text.specs.declared.Written.{Written}
-use Rattle.row.specs.Row.{rowOf}
-use Rattle.row.proofs.Back.{Four, row-back}
+use Rattle.insn_row.specs.Row.{rowOf, numbersOf}
+use Rattle.insn_row.proofs.Back.{row-back}
+use Rattle.insn_row.proofs.Holds.{front}
+use Rattle.insn_row.proofs.Sizes.{row-size}
 use Rattle.brassdozen.specs.Given.{rowRefusal, rowLast, whole, Answers, encodedOf}
 use Rattle.brassdozen.proofs.Fit.{fits}
 use Rattle.brassdozen.proofs.Exactly.{finds}
@@ -62,11 +63,8 @@ reads-back w addr out e =
     ap insnFrom (lays d out e) ∙ row-back (d .insn) (drop (length (rowOf (d .insn))) out) (fits w addr (accepts d out e))
 
 -- a value's row is the whole of it, whatever stands after it
-prefix : (i : Insn) (rest : List ℕ) → Four (i .ops) → rowOf i ≡ whole (rowOf i ++ rest)
-prefix i rest four = subst (λ (ops : List Place). rowOf (with ops) ≡ whole (rowOf (with ops) ++ rest)) (sym (four .laid)) refl
-  where
-    with : List Place → Insn
-    with ops = insnOf (i .addr) (i .name) (i .cond) (i .flow) ops
+prefix : (i : Insn) (rest : List ℕ) → length (i .ops) ≡ PLACES → rowOf i ≡ whole (rowOf i ++ rest)
+prefix i rest e = subst (λ (n : ℕ). rowOf i ≡ numbersOf (rowOf i ++ rest) 0 n) (row-size i e) (front (rowOf i) rest)
 
 -- and encodes to the home word
 pub goes-home : (w addr : ℕ) (out : List ℕ) → w < 2 ^ 32 → rowRefusal (decodeOf w addr) out ≡ 0
@@ -88,7 +86,7 @@ goes-home w addr out bound e = ap encodedOf (lays d out e) ∙ finds w (rowOf (d
     answers : Answers w (rowOf (d .insn) ++ rest)
     answers = record {
       accepted = ap (λ (x : Decoded). x .refusal) there ∙ ok;
-      equal = ap (λ (x : Decoded). rowOf (x .insn)) there ∙ prefix (d .insn) rest (fits w addr ok .operands);
+      equal = ap (λ (x : Decoded). rowOf (x .insn)) there ∙ prefix (d .insn) rest (fits w addr ok .places);
     }
 
 -- different work, different rows

@@ -8,20 +8,20 @@ use native.Mathlib.Nat.{mod-eq-of-lt, mod-lt}
 use native.Mathlib.Omega.{arith}
 use borrow.Author.Tests.{eqb-true}
 use lib.Dec.{eqb}
-use lib.ListN.{length, getD}
+use lib.ListN.{getD}
 use lib.Pow.{pow-pos}
 use Rattle.word.specs.Choice.{both, parts, by-test}
 use Rattle.a32.specs.Decode.{decodeOf}
-use Rattle.home.specs.Home.{homeOf}
-use Rattle.home.specs.Word.{wordOf}
-use Rattle.home.proofs.Same.{home-decodes, home-small, leads-home}
-use Rattle.words.specs.Candidate.{candidate}
-use Rattle.value.specs.Value.{insnFrom}
-use Rattle.packed.specs.Packed.{packed}
-use Rattle.row.specs.Row.{rowOf, numbersOf, holds}
-use Rattle.row.proofs.Back.{row-back}
-use Rattle.row.proofs.Holds.{holds-exactly}
-use Rattle.row.proofs.Sizes.{row-size}
+use Rattle.encode_home.specs.Home.{homeOf}
+use Rattle.encode_home.specs.Word.{wordOf}
+use Rattle.encode_home.proofs.Same.{home-decodes, home-small, leads-home}
+use Rattle.encode_words.specs.Candidate.{candidate}
+use Rattle.insn_value.specs.Value.{insnFrom}
+use Rattle.word_packed.specs.Packed.{packed}
+use Rattle.insn_row.specs.Row.{rowOf, numbersOf, holds}
+use Rattle.insn_row.proofs.Back.{row-back}
+use Rattle.insn_row.proofs.Holds.{holds-exactly}
+use Rattle.insn_row.proofs.Sizes.{row-size}
 use Rattle.brassdozen.specs.Given.{whole, Answers, encodedOf}
 use Rattle.brassdozen.proofs.Fit.{fits}
 
@@ -31,7 +31,7 @@ compares : (w : ℕ) (row : List ℕ) → decodeOf w (getD row 0 0) .refusal ≡
 compares w row ok =
     let i = decodeOf w (getD row 0 0) .insn in
     subst (λ (n : ℕ). (holds row 0 (rowOf i) ≡ true) ↔ (rowOf i ≡ numbersOf row 0 n))
-    (row-size i (ap length (fits w (getD row 0 0) ok .operands .laid)))
+    (row-size i (fits w (getD row 0 0) ok .places))
     (holds-exactly row 0 (rowOf i))
 
 -- a word whose answer has the row is found, at home

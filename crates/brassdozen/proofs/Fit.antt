@@ -1,12 +1,12 @@
 -- The numbers of an accepted answer fit the types that a row's numbers are read as. Assumes nothing.
-use mathlib.Core.Path.{_≡_, refl, sym, subst}
+use mathlib.Core.Path.{_≡_, sym, ap, _∙_, subst}
 use mathlib.Core.Bool.{Bool, true, false}
 use mathlib.Core.List.{List, [], _∷_}
-use Prim.Native.Nat.{ℕ, _^_, _<_, _≤_}
+use Prim.Native.Nat.{ℕ, zero, suc, _^_, _<_}
 use native.Mathlib.Omega.{arith}
 use lib.IntN.{ℤ, pos, negsuc, natAbs}
-use lib.ListN.{length}
-use Rattle.insn.specs.Answer.{places}
+use lib.ListN.{length, getD}
+use Rattle.insn.specs.Answer.{placeAt}
 use Rattle.insn.specs.Numbers.{flowTarget}
 use Rattle.insn.specs.declared.Flow.{Flow}
 use Rattle.insn.specs.declared.Flow.the-variants.{Next, Branch, CondBranch, IndirectBranch, Call, IndirectCall, Return, Trap}
@@ -14,13 +14,15 @@ use Rattle.insn.specs.declared.Index.{Index}
 use Rattle.insn.specs.declared.Index.the-variants.{Absent, Left}
 use Rattle.insn.specs.declared.Insn.{Insn}
 use Rattle.insn.specs.declared.Operand.{Operand}
-use Rattle.insn.specs.declared.Operand.the-variants.{Empty, Register, Shifted, ShiftBy, SaturateShift, Rotate, Count, Number, StatusMask, StatusSource, WriteBack, List as RegisterList, Address, Memory, Option}
+use Rattle.insn.specs.declared.Operand.the-variants.{Empty, Register, Shifted, ShiftBy, SaturateShift, Rotate, Count, Number, StatusMask}
+use Rattle.insn.specs.declared.Operand.the-variants.{StatusSource, WriteBack, List as RegisterList, Address, Memory, Option}
 use Rattle.insn.specs.declared.Place.{Place}
+use Rattle.insn.proofs.Places.{places-length, place-at}
 use Rattle.a32.specs.Decode.{decodeOf}
-use Rattle.row.proofs.Back as R
-use Rattle.row.proofs.Back.{magnitude, Narrow, Four, Fits}
-use Rattle.spelling.proofs.Formed.{Indexed, Sound, Laid, Aimed, targetIn, Formed}
-use Rattle.spelling.proofs.FormedAll.{all-good}
+use Rattle.insn_row.proofs.Back as R
+use Rattle.insn_row.proofs.Back.{magnitude, Narrow, Fits}
+use Rattle.line_spelling.proofs.Formed.{Indexed, Sound, Laid, Aimed, targetIn, Formed}
+use Rattle.line_spelling.proofs.FormedAll.{all-good}
 
 signed-narrow : (z : ℤ) → natAbs z < 2 ^ 32 → magnitude z < 2 ^ 63
 signed-narrow (pos n) h = omega arith
@@ -44,8 +46,16 @@ narrow last name (StatusSource s) h = tt
 narrow last name (WriteBack r) h = omega arith
 narrow last name (RegisterList n) h = h
 narrow last name (Address n) h = h
-narrow last name (Memory m) h =
-    (omega (arith, h .1 .base), (index-narrow (m .index) (h .1 .index), (signed-narrow (m .disp) (omega (arith, h .1 .disp)), omega (arith, h .1 .size))))
+narrow last name (Memory m) h = (
+  omega (arith, h .1 .base),
+  (
+    index-narrow (m .index) (h .1 .index),
+    (
+      signed-narrow (m .disp) (omega (arith, h .1 .disp)),
+      omega (arith, h .1 .size),
+    ),
+  ),
+)
 narrow last name (Option n) h = omega (arith, h .1)
 
 -- the address at place 0, if one is there
@@ -81,48 +91,23 @@ target-narrow os IndirectCall h e = omega arith
 target-narrow os Return h e = omega arith
 target-narrow os Trap h e = omega arith
 
-operands-narrow : (name : ℕ) (os : List Operand) → length os ≤ 4 → Laid name os → Four (places os)
-operands-narrow name [] few h = record { first = Empty; second = Empty; third = Empty; fourth = Empty; laid = refl; narrow = ((tt, tt), (tt, tt)) }
-operands-narrow name (a ∷ []) few h = record {
-  first = a;
-  second = Empty;
-  third = Empty;
-  fourth = Empty;
-  laid = refl;
-  narrow = ((narrow true name a h, tt), (tt, tt));
-}
-operands-narrow name (a ∷ b ∷ []) few h = record {
-  first = a;
-  second = b;
-  third = Empty;
-  fourth = Empty;
-  laid = refl;
-  narrow = ((narrow false name a (h .0), narrow true name b (h .1)), (tt, tt));
-}
-operands-narrow name (a ∷ b ∷ c ∷ []) few h = record {
-  first = a;
-  second = b;
-  third = c;
-  fourth = Empty;
-  laid = refl;
-  narrow = ((narrow false name a (h .0), narrow false name b (h .1 .0)), (narrow true name c (h .1 .1), tt));
-}
-operands-narrow name (a ∷ b ∷ c ∷ d ∷ []) few h = record {
-  first = a;
-  second = b;
-  third = c;
-  fourth = d;
-  laid = refl;
-  narrow = ((narrow false name a (h .0), narrow false name b (h .1 .0)), (narrow false name c (h .1 .1 .0), narrow true name d (h .1 .1 .1)));
-}
-operands-narrow name (a ∷ b ∷ c ∷ d ∷ e ∷ os) few h = absurd (omega (arith, few))
+-- operand n, or the empty one
+operands-narrow : (name : ℕ) (os : List Operand) → Laid name os → (n : ℕ) → Narrow (getD os n Empty)
+operands-narrow name [] h n = tt
+operands-narrow name (o ∷ []) h zero = narrow true name o h
+operands-narrow name (o ∷ []) h (suc n) = tt
+operands-narrow name (o ∷ p ∷ os) h zero = narrow false name o (h .0)
+operands-narrow name (o ∷ p ∷ os) h (suc n) = operands-narrow name (p ∷ os) (h .1) n
 
 answer-fits : {addr : ℕ} (i : Insn) → Formed addr i → Fits i
 answer-fits i f = record {
   name = omega (arith, f .named);
   cond = omega (arith, f .under);
   target = target-narrow (f .operands) (i .flow) (places-narrow (i .name) (f .operands) (f .sound)) (f .aimed);
-  operands = subst (λ (ops : List Place). Four ops) (sym (f .laid)) (operands-narrow (i .name) (f .operands) (f .few) (f .sound));
+  places = ap length (f .laid) ∙ places-length (f .operands) (omega (arith, f .few));
+  operands = λ n.
+      subst (λ (p : Place). Narrow (p .operand)) (sym (ap (λ (ops : List Place). placeAt ops n) (f .laid) ∙ place-at (f .operands) n))
+      (operands-narrow (i .name) (f .operands) (f .sound) n);
 }
 
 pub fits : (w addr : ℕ) → decodeOf w addr .refusal ≡ 0 → Fits (decodeOf w addr .insn)

@@ -11,8 +11,8 @@ use Rattle.word.specs.Choice.{pick}
 use Rattle.insn.specs.declared.Decoded.{Decoded}
 use Rattle.insn.specs.declared.Insn.{Insn}
 use Rattle.a32.specs.Decode.{decodeOf}
-use Rattle.words.specs.Candidate.{candidate}
-use Rattle.value.specs.Value.{insnFrom}
+use Rattle.encode_words.specs.Candidate.{candidate}
+use Rattle.insn_value.specs.Value.{insnFrom}
 use Rattle.text.specs.Fits.{answerOf}
 use Rattle.text.specs.declared.Written.{Written}
 use Rattle.brassdozen.specs.Given.{rowRefusal, rowLast, checked, encodedOf}

@@ -13,10 +13,12 @@ use Rattle.brassdozen.proofs.brassdozen_listing.Reads as listing
 pub version-only : (κs : _) (a : _) (r r′ : _) (s s′ : _) → version.Post κs a r s → version.Post κs a r′ s′ → r ≡ r′
 version-only κs a r r′ s s′ p q = p ∙ sym q
 
-pub decode-only : (κs : _) (a : _) (r r′ : _) (s s′ : _) → decode.Post κs a r s → decode.Post κs a r′ s′ → (r ≡ r′) × (now (s .1 .1 .0) ≡ now (s′ .1 .1 .0))
+pub decode-only : (κs : _) (a : _) (r r′ : _) (s s′ : _) → decode.Post κs a r s → decode.Post κs a r′ s′
+    → (r ≡ r′) × (now (s .1 .1 .0) ≡ now (s′ .1 .1 .0))
 decode-only κs a r r′ s s′ p q = (p .0 ∙ sym (q .0), p .1 ∙ sym (q .1))
 
-pub decode-bytes-only : (κs : _) (a : _) (r r′ : _) (s s′ : _) → decode-bytes.Post κs a r s → decode-bytes.Post κs a r′ s′ → (r ≡ r′) × (now (s .1 .1 .0) ≡ now (s′ .1 .1 .0))
+pub decode-bytes-only : (κs : _) (a : _) (r r′ : _) (s s′ : _) → decode-bytes.Post κs a r s → decode-bytes.Post κs a r′ s′
+    → (r ≡ r′) × (now (s .1 .1 .0) ≡ now (s′ .1 .1 .0))
 decode-bytes-only κs a r r′ s s′ p q = (p .0 ∙ sym (q .0), p .1 ∙ sym (q .1))
 
 pub encode-only : (κs : _) (a : _) (r r′ : _) (s s′ : _) → encode.Post κs a r s → encode.Post κs a r′ s′ → r ≡ r′
@@ -28,5 +30,6 @@ home-only κs a r r′ s s′ p q = p ∙ sym q
 pub line-only : (κs : _) (a : _) (r r′ : _) (s s′ : _) → line.Post κs a r s → line.Post κs a r′ s′ → (r ≡ r′) × (now (s .1 .1 .0) ≡ now (s′ .1 .1 .0))
 line-only κs a r r′ s s′ p q = (p .0 ∙ sym (q .0), p .1 ∙ sym (q .1))
 
-pub listing-only : (κs : _) (a : _) (r r′ : _) (s s′ : _) → listing.Post κs a r s → listing.Post κs a r′ s′ → (r ≡ r′) × (now (s .1 .0) ≡ now (s′ .1 .0))
+pub listing-only : (κs : _) (a : _) (r r′ : _) (s s′ : _) → listing.Post κs a r s → listing.Post κs a r′ s′
+    → (r ≡ r′) × (now (s .1 .0) ≡ now (s′ .1 .0))
 listing-only κs a r r′ s s′ p q = (p .0 ∙ sym (q .0), p .1 ∙ sym (q .1))

@@ -5,14 +5,15 @@ use Prim.Native.Nat.{ℕ}
 use lib.Dec.{eqb}
 use lib.ListN.{getD}
 use Rattle.word.specs.Choice.{pick, both}
+use Rattle.word.specs.Refusal.{NO_WORD}
 use Rattle.insn.specs.declared.Decoded.{Decoded}
 use Rattle.a32.specs.Decode.{decodeOf}
-use Rattle.words.specs.Candidate.{candidate}
+use Rattle.encode_words.specs.Candidate.{candidate}
 use Rattle.encode.specs.Encode.{homeAnswer}
-use Rattle.value.specs.Value.{insnFrom}
-use Rattle.packed.specs.Packed.{packed}
+use Rattle.insn_value.specs.Value.{insnFrom}
+use Rattle.word_packed.specs.Packed.{packed}
 use Rattle.text.specs.Fits.{answerOf, lastOf}
-use Rattle.row.specs.Row.{ROW, rowOf, numbersOf, holds}
+use Rattle.insn_row.specs.Row.{ROW, rowOf, numbersOf, holds}
 
 -- 1.0.0
 abbrev pub VERSION : ℕ
@@ -37,7 +38,7 @@ pub record Answers (w : ℕ) (row : List ℕ) : Type 0 where
 
 -- the word w, if its answer d has this row, or refusal 4
 abbrev pub checked : List ℕ → ℕ → Decoded → ℕ
-checked row w d = pick (both (eqb (d .refusal) 0) (holds row 0 (rowOf (d .insn)))) (packed 0 w) (packed 4 0)
+checked row w d = pick (both (eqb (d .refusal) 0) (holds row 0 (rowOf (d .insn)))) (packed 0 w) (packed NO_WORD 0)
 
 -- the word that the row's value leads to, if its answer at the row's address has this row; if it has not, no word's has (`encodes-exactly`)
 abbrev pub encodedOf : List ℕ → ℕ

@@ -2,21 +2,21 @@
 //! `include/brassdozen.h` declares each function to C.
 use a32::decode;
 use a32::decode_bytes;
-use encode::NO_WORD;
 use encode::home;
+use encode_words::word_of;
 use insn::Decoded;
+use insn_row::is_row;
+use insn_row::put_row;
+use insn_value::insn_from;
 use line::line;
-use listed::listing;
-use packed::pack;
-use row::is_row;
-use row::put_row;
-use value::insn_from;
-use words::word_of;
+use listing_text::listing;
+use word::refusal::NO_WORD;
+use word_packed::pack;
 ghost use mathlib.Core.Path.{_≡_};
 ghost use Rattle.a32.specs.Decode.{decodeOf, decodeBytesOf};
 ghost use Rattle.text.specs.Fits.{answerOf, lastOf};
-ghost use Rattle.spelling.specs.Line.{lineOf};
-ghost use Rattle.listed.specs.Listing.{listingOf};
+ghost use Rattle.line_spelling.specs.Line.{lineOf};
+ghost use Rattle.listing_text.specs.Listing.{listingOf};
 ghost use Rattle.brassdozen.specs.Given.{VERSION, rowRefusal, rowLast, encodedOf, homedOf, writtenOf};
 
 /// The library's version: 10,000 for each major one, 100 for each minor one, and one for each patch.

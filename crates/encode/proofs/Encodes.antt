@@ -1,4 +1,5 @@
--- The word that an answer leads to is the home word, encoding an answer gives it, and a value is refused exactly if no word has it for its answer. Assumes nothing.
+-- The word that an answer leads to is the home word, encoding an answer gives it, and a value is refused exactly if no word has it for its answer.
+-- Assumes nothing.
 use mathlib.Core.Path.{_≡_, refl, sym, ap, _∙_, subst}
 use mathlib.Core.Bool.{false, true≢false}
 use mathlib.Core.Logic.{_↔_}
@@ -13,14 +14,14 @@ use Rattle.insn.specs.declared.Decoded.{Decoded}
 use Rattle.insn.specs.declared.Insn.{Insn}
 use Rattle.a32.specs.Decode.{decodeOf}
 use Rattle.a32.proofs.Elsewhere.{keeps-address}
-use Rattle.home.specs.Home.{homeOf}
-use Rattle.home.specs.Word.{wordOf}
-use Rattle.home.proofs.Leads.{refusal}
-use Rattle.home.proofs.Same.{home-decodes, leads-home, home-small, leads-back}
-use Rattle.same.specs.Same.{sameOf}
-use Rattle.same.proofs.Exact.{same-is}
+use Rattle.encode_home.specs.Home.{homeOf}
+use Rattle.encode_home.specs.Word.{wordOf}
+use Rattle.encode_home.proofs.Leads.{refusal}
+use Rattle.encode_home.proofs.Same.{home-decodes, leads-home, home-small, leads-back}
+use Rattle.insn_same.specs.Same.{sameOf}
+use Rattle.insn_same.proofs.Exact.{same-is}
 use Rattle.encode.specs.declared.Encoded.{Encoded}
-use Rattle.words.specs.Candidate.{candidate}
+use Rattle.encode_words.specs.Candidate.{candidate}
 use Rattle.encode.specs.Encode.{checked, encodeOf, homeAnswer}
 
 -- what the code gives of the word it finds and that word's answer
@@ -65,7 +66,8 @@ finds i w bound is = simp (at-home, ap (λ (d : Decoded). d .refusal) decodes, a
     decodes = home-decodes w (i .addr) bound ∙ is
 
 -- encoding the answer of an accepted word gives its home word
-pub encodes-home : (w addr : ℕ) → w < 2 ^ 32 → (decodeOf w addr) .refusal ≡ 0 → encodeOf ((decodeOf w addr) .insn) ≡ record { refusal = 0; word = homeOf w }
+pub encodes-home : (w addr : ℕ) → w < 2 ^ 32 → (decodeOf w addr) .refusal ≡ 0
+    → encodeOf ((decodeOf w addr) .insn) ≡ record { refusal = 0; word = homeOf w }
 encodes-home w addr bound ok =
     finds ((decodeOf w addr) .insn) w bound
     (ap (decodeOf w) (keeps-address w addr ok) ∙ accepted-of (decodeOf w addr) ok)

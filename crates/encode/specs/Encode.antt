@@ -2,20 +2,21 @@
 use Prim.Native.Nat.{ℕ}
 use lib.Dec.{eqb}
 use Rattle.word.specs.Choice.{pick}
+use Rattle.word.specs.Refusal.{NO_WORD}
 use Rattle.insn.specs.declared.Decoded.{Decoded}
 use Rattle.insn.specs.declared.Insn.{Insn}
 use Rattle.a32.specs.Decode.{decodeOf}
-use Rattle.home.specs.Home.{homeOf}
-use Rattle.same.specs.Same.{sameOf}
-use Rattle.words.specs.Candidate.{candidate}
+use Rattle.encode_home.specs.Home.{homeOf}
+use Rattle.insn_same.specs.Same.{sameOf}
+use Rattle.encode_words.specs.Candidate.{candidate}
 use Rattle.encode.specs.declared.Encoded.{Encoded}
 
-abbrev pub refused4 : Encoded
-refused4 = record { refusal = 4; word = 0 }
+abbrev pub unencoded : Encoded
+unencoded = record { refusal = NO_WORD; word = 0 }
 
 -- the word w, if its answer d is the value
 abbrev pub checked : Insn → ℕ → Decoded → Encoded
-checked i w d = pick (eqb (d .refusal) 0) (pick (sameOf (d .insn) i) (record { refusal = 0; word = w }) refused4) refused4
+checked i w d = pick (eqb (d .refusal) 0) (pick (sameOf (d .insn) i) (record { refusal = 0; word = w }) unencoded) unencoded
 
 -- the candidate, if it has the value for its answer at the value's address; if it has not, no word has (`refuses-exactly`)
 abbrev pub encodeOf : Insn → Encoded

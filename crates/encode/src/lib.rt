@@ -1,14 +1,12 @@
 //! The encoder: an instruction value's word is put together from its name and operands, and the decoder says whether it
 //! has that value for its answer. A home word is the word that an answer leads to.
 use a32::decode;
+use encode_words::word_of;
 use insn::Insn;
-use same::same;
-use words::word_of;
+use insn_same::same;
+use word::refusal::NO_WORD;
 ghost use mathlib.Core.Path.{_≡_};
-ghost use Rattle.encode.specs.Encode.{encodeOf, homeAnswer, refused4};
-
-/// The refusal of an instruction value that no word in range has for its answer.
-pub const NO_WORD: u8 = 4;
+ghost use Rattle.encode.specs.Encode.{encodeOf, homeAnswer, unencoded};
 
 /// What encoding gives: a word, or the number of a refusal and the word 0.
 pub struct Encoded {
@@ -55,7 +53,7 @@ pub fn home(w: u32) -> Encoded
 }
 
 fn refuse() -> Encoded
-    ensures { λ r. ⌜ r ≡ refused4 ⌝ }
+    ensures { λ r. ⌜ r ≡ unencoded ⌝ }
 {
     Encoded {
         refusal: NO_WORD,

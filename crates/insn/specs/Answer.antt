@@ -1,7 +1,7 @@
 -- What the decoder answers, as values (01, "What is built" and "Refusal numbers").
-use mathlib.Core.List.{List, [], _∷_}
-use Prim.Native.Nat.{ℕ}
-use lib.ListN.{set}
+use mathlib.Core.List.{List, [], _∷_, _++_, map}
+use Prim.Native.Nat.{ℕ, _-_}
+use lib.ListN.{length, getD, set, replicate}
 use Rattle.insn.specs.declared.Cond.{Cond}
 use Rattle.insn.specs.declared.Place.{Place}
 use Rattle.insn.specs.declared.Flow.{Flow}
@@ -11,16 +11,30 @@ use Rattle.insn.specs.declared.Operand.the-variants.{Empty}
 use Rattle.insn.specs.declared.Insn.{Insn}
 use Rattle.insn.specs.declared.Decoded.{Decoded}
 
--- the four operand places, of which the unused ones all hold the empty operand
-abbrev pub four : Operand → Operand → Operand → Operand → List Place
-four a b c d = record { operand = a } ∷ record { operand = b } ∷ record { operand = c } ∷ record { operand = d } ∷ []
+-- how many operand places an instruction has
+abbrev pub PLACES : ℕ
+PLACES = 4
 
+-- a place with an operand, and one that is not used
+abbrev pub used : Operand → Place
+used o = record { operand = o }
+
+abbrev pub unused : Place
+unused = used Empty
+
+-- each operand at a place of its own, then unused ones, PLACES in all. No operand is dropped: more than PLACES are a longer list, which no
+-- instruction value has
 abbrev pub places : List Operand → List Place
-places [] = four Empty Empty Empty Empty
-places (a ∷ []) = four a Empty Empty Empty
-places (a ∷ b ∷ []) = four a b Empty Empty
-places (a ∷ b ∷ c ∷ []) = four a b c Empty
-places (a ∷ b ∷ c ∷ d ∷ _) = four a b c d
+places os = map used os ++ replicate (PLACES - length os) unused
+
+-- place n
+abbrev pub placeAt : List Place → ℕ → Place
+placeAt ps n = getD ps n unused
+
+-- the numbers of each operand, place after place
+abbrev pub spread : (Operand → List ℕ) → List Place → List ℕ
+spread f [] = []
+spread f (p ∷ ps) = f (p .operand) ++ spread f ps
 
 abbrev pub insnOf : ℕ → ℕ → Cond → Flow → List Place → Insn
 insnOf a n c f o = record { addr = a; name = n; cond = c; flow = f; ops = o }
@@ -30,7 +44,7 @@ empty a n c f = insnOf a n c f (places [])
 
 -- an instruction with its operand place n filled
 abbrev pub filled : Insn → ℕ → Operand → Insn
-filled i n o = insnOf (i .addr) (i .name) (i .cond) (i .flow) (set (i .ops) n (record { operand = o }))
+filled i n o = insnOf (i .addr) (i .name) (i .cond) (i .flow) (set (i .ops) n (used o))
 
 abbrev pub accepted : Insn → Decoded
 accepted i = record { refusal = 0; insn = i }

@@ -1,5 +1,5 @@
 pub mod Answer
 pub mod Constants
 pub mod Memory
-pub mod Name
 pub mod Numbers
+pub mod Roots

@@ -2,7 +2,7 @@
 ghost use mathlib.Core.Path.{_≡_};
 ghost use Prim.Native.Nat.{_<_};
 ghost use lib.Dec.{eqb};
-ghost use Rattle.insn.specs.Answer.{empty, filled, accepted, refused};
+ghost use Rattle.insn.specs.Answer.{PLACES, empty, filled, accepted, refused};
 ghost use Rattle.insn.specs.Constants.{SP, LR, PC, AL};
 ghost use Rattle.insn.specs.Memory.{baseDisp};
 ghost use Rattle.insn.specs.Numbers.{shiftNumber, statusNumber, modeNumber, operandNumber, flowNumber, flowTarget};
@@ -313,7 +313,7 @@ impl Insn {
 
     /// The instruction with its operand place `n` filled.
     pub fn with(mut self, n: usize, operand: Operand) -> Insn
-        requires { ⌜ n < 4 ⌝ }
+        requires { ⌜ n < PLACES ⌝ }
         ensures { λ r. ⌜ r ≡ filled self n operand ⌝ }
     {
         self.ops[n] = Place { operand: operand };

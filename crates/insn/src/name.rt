@@ -1,4 +1,5 @@
-//! The names by number: the 129 roots that a32.rs answers, in the order in which it first spells them, then the barriers, then the halfword multiplies.
+//! The names by number: the 129 roots that a32.rs answers, in the order in which it first spells them, then the barriers, then the halfword
+//! multiplies.
 
 // DP and DP_S: the data processing names, plain and setting the flags.
 pub const AND: u16 = 0;

@@ -14,8 +14,10 @@ line-only κs a r r′ s s′ p q = (p .0 ∙ sym (q .0), p .1 ∙ sym (q .1))
 pub put-line-only : (κs : _) (a : _) (r r′ : _) (s s′ : _) → put-line.Post κs a r s → put-line.Post κs a r′ s′ → (r ≡ r′) × (now (s .0) ≡ now (s′ .0))
 put-line-only κs a r r′ s s′ p q = one-put p q
 
-pub put-answered-only : (κs : _) (a : _) (r r′ : _) (s s′ : _) → put-answered.Post κs a r s → put-answered.Post κs a r′ s′ → (r ≡ r′) × (now (s .0) ≡ now (s′ .0))
+pub put-answered-only : (κs : _) (a : _) (r r′ : _) (s s′ : _) → put-answered.Post κs a r s → put-answered.Post κs a r′ s′
+    → (r ≡ r′) × (now (s .0) ≡ now (s′ .0))
 put-answered-only κs a r r′ s s′ p q = one-put p q
 
-pub put-refused-only : (κs : _) (a : _) (r r′ : _) (s s′ : _) → put-refused.Post κs a r s → put-refused.Post κs a r′ s′ → (r ≡ r′) × (now (s .0) ≡ now (s′ .0))
+pub put-refused-only : (κs : _) (a : _) (r r′ : _) (s s′ : _) → put-refused.Post κs a r s → put-refused.Post κs a r′ s′
+    → (r ≡ r′) × (now (s .0) ≡ now (s′ .0))
 put-refused-only κs a r r′ s s′ p q = one-put p q

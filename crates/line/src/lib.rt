@@ -4,10 +4,10 @@ use a32::decode;
 use insn::Cond;
 use insn::Decoded;
 use insn::Insn;
-use names::put_flow;
-use names::put_root;
-use names::put_suffix;
-use operands::put_places;
+use line_names::put_flow;
+use line_names::put_root;
+use line_names::put_suffix;
+use line_operands::put_places;
 use text::Written;
 use text::put;
 use text::put_byte;
@@ -18,7 +18,7 @@ ghost use mathlib.Core.Path.{_≡_};
 ghost use Rattle.text.specs.Text.{hexOf};
 ghost use Rattle.text.specs.Fits.{answerOf, lastOf};
 ghost use Rattle.text.specs.Put.{Room, Put};
-ghost use Rattle.spelling.specs.Line.{nameOf, insnText, refusedText, answerText, lineText, lineOf};
+ghost use Rattle.line_spelling.specs.Line.{nameText, insnText, refusedText, answerText, lineText, lineOf};
 
 /// No line takes more bytes.
 pub const MOST: usize = 96;
@@ -103,8 +103,8 @@ fn put_insn(out: &mut [u8], at: usize, i: Insn) -> usize
 }
 
 fn put_name(out: &mut [u8], at: usize, name: u16, cond: Cond) -> usize
-    requires { ⌜ Room (now out) at (nameOf name cond) ⌝ }
-    ensures { λ r. ⌜ Put (now (out .entry)) at (nameOf name cond) r (now (out .exit)) ⌝ }
+    requires { ⌜ Room (now out) at (nameText name cond) ⌝ }
+    ensures { λ r. ⌜ Put (now (out .entry)) at (nameText name cond) r (now (out .exit)) ⌝ }
 {
     let at = put_root(out, at, name);
     put_suffix(out, at, cond)

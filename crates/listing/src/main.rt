@@ -1,6 +1,6 @@
 //! Lists the section on standard input.
 use libc::STDIN_FILENO;
-use lister::list;
+use listing_stream::list;
 
 fn main() {
     list(STDIN_FILENO);

@@ -1,6 +1,6 @@
 //! Lists the sections in the files that its arguments name, each after its file's name.
 use libc::STDOUT_FILENO;
-use lister::list;
+use listing_stream::list;
 
 fn main() {
     let count = os::arg_count();

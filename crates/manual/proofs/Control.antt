@@ -6,9 +6,9 @@ use native.Mathlib.Omega.{arith}
 use borrow.Author.Tests.{eqb-true}
 use lib.Dec.{eqb}
 use Rattle.word.specs.Field.{field}
-use Rattle.insn.specs.Name as N
+use Rattle.insn.specs.Roots.{name}
 use Rattle.insn.specs.declared.Decoded.{Decoded}
-use Rattle.multiply.specs.Halfword.{halfOf, halvesOf}
+use Rattle.a32_multiply.specs.Halfword.{halfOf, halvesOf}
 use Rattle.a32.specs.Decode as D
 use Rattle.a32.specs.Decode.{decodeOf, groupOf, dpMiscOf, controlOf}
 use Rattle.manual.specs.A5 as A
@@ -31,8 +31,7 @@ halves-is w n =
 module _ (w addr : ℕ) (cond : eqb (field w 28 4) 15 ≡ false) (group : field w 25 3 ≡ 0) where
   -- 7:4 = 1001, by 24:20
   pub multiplies : field w 4 4 ≡ 9 → HeldAt w addr
-  unfolding decodeOf groupOf dpMiscOf D.extraOf saidOf pageOf standingOf A.tableRow A.dataProcessing A.multiply A.synchronization
-  multiplies low =
+  multiplies low = unfold decodeOf groupOf dpMiscOf D.extraOf saidOf pageOf standingOf A.tableRow A.dataProcessing A.multiply A.synchronization in
       by-field w 20 5
       ((λ e. simp (ops, lows, groups, cond, group, low, e) (holds (simp (ops, bits, e)))) also
       (λ e. simp (ops, lows, groups, cond, group, low, e) (holds (simp (ops, bits, e)))) also
@@ -71,8 +70,7 @@ module _ (w addr : ℕ) (cond : eqb (field w 28 4) 15 ≡ false) (group : field 
   module _ (op : field w 23 2 ≡ 2) (s : field w 20 1 ≡ 0) where
     -- any of the fields: four rows of the table are one page
     msr-fields : field w 4 4 ≡ 0 → field w 21 2 ≡ 1 → field w 9 1 ≡ 0 → HeldAt w addr
-    unfolding decodeOf groupOf dpMiscOf D.plainOf controlOf saidOf pageOf standingOf A.tableRow A.dataProcessing A.miscellaneous
-    msr-fields low e n =
+    msr-fields low e n = unfold decodeOf groupOf dpMiscOf D.plainOf controlOf saidOf pageOf standingOf A.tableRow A.dataProcessing A.miscellaneous in
         by-field w 16 2
         ((λ f. simp (controls, lows, groups, cond, group, op, s, low, e, n, rn-bits, f) (holds (simp (controls, e)))) also
         (λ f. simp (controls, lows, groups, cond, group, op, s, low, e, n, rn-bits, f) (holds (simp (controls, e)))) also
@@ -80,14 +78,17 @@ module _ (w addr : ℕ) (cond : eqb (field w 28 4) 15 ≡ false) (group : field 
         (λ f. simp (controls, lows, groups, cond, group, op, s, low, e, n, rn-bits, f) (holds (simp (controls, e)))) also tt)
 
     pub status : field w 4 4 ≡ 0 → HeldAt w addr
-    unfolding decodeOf groupOf dpMiscOf D.plainOf controlOf saidOf pageOf standingOf A.tableRow A.dataProcessing A.miscellaneous
-    status low =
+    status low = unfold decodeOf groupOf dpMiscOf D.plainOf controlOf saidOf pageOf standingOf A.tableRow A.dataProcessing A.miscellaneous in
         by-field w 21 2
         (
-        (λ e. by-field w 9 1 ((λ n. simp (controls, lows, groups, cond, group, op, s, low, e, n) (holds (simp (controls, e)))) also (λ n. simp (controls, lows, groups, cond, group, op, s, low, e, n) (holds refl)) also tt)) also
-        (λ e. by-field w 9 1 ((λ n. msr-fields low e n) also (λ n. simp (controls, lows, groups, cond, group, op, s, low, e, n) (holds refl)) also tt)) also
-        (λ e. by-field w 9 1 ((λ n. simp (controls, lows, groups, cond, group, op, s, low, e, n) (holds (simp (controls, e)))) also (λ n. simp (controls, lows, groups, cond, group, op, s, low, e, n) (holds refl)) also tt)) also
-        (λ e. by-field w 9 1 ((λ n. simp (controls, lows, groups, cond, group, op, s, low, e, n) (holds (simp (controls, e)))) also (λ n. simp (controls, lows, groups, cond, group, op, s, low, e, n) (holds refl)) also tt)) also tt)
+        (λ e. by-field w 9 1 ((λ n. simp (controls, lows, groups, cond, group, op, s, low, e, n) (holds (simp (controls, e)))) also
+        (λ n. simp (controls, lows, groups, cond, group, op, s, low, e, n) (holds refl)) also tt)) also
+        (λ e. by-field w 9 1 ((λ n. msr-fields low e n) also (λ n. simp (controls, lows, groups, cond, group, op, s, low, e, n) (holds refl)) also
+        tt)) also
+        (λ e. by-field w 9 1 ((λ n. simp (controls, lows, groups, cond, group, op, s, low, e, n) (holds (simp (controls, e)))) also
+        (λ n. simp (controls, lows, groups, cond, group, op, s, low, e, n) (holds refl)) also tt)) also
+        (λ e. by-field w 9 1 ((λ n. simp (controls, lows, groups, cond, group, op, s, low, e, n) (holds (simp (controls, e)))) also
+        (λ n. simp (controls, lows, groups, cond, group, op, s, low, e, n) (holds refl)) also tt)) also tt)
 
     pub exchange-and-zeros : field w 4 4 ≡ 1 → HeldAt w addr
     unfolding decodeOf groupOf dpMiscOf D.plainOf controlOf saidOf pageOf standingOf A.tableRow A.dataProcessing A.miscellaneous
@@ -99,8 +100,7 @@ module _ (w addr : ℕ) (cond : eqb (field w 28 4) 15 ≡ false) (group : field 
         (λ e. simp (controls, lows, groups, cond, group, op, s, low, e) (holds refl)) also tt)
 
     pub jazelle : field w 4 4 ≡ 2 → HeldAt w addr
-    unfolding decodeOf groupOf dpMiscOf D.plainOf controlOf saidOf pageOf standingOf A.tableRow A.dataProcessing A.miscellaneous
-    jazelle low =
+    jazelle low = unfold decodeOf groupOf dpMiscOf D.plainOf controlOf saidOf pageOf standingOf A.tableRow A.dataProcessing A.miscellaneous in
         by-field w 21 2
         ((λ e. simp (controls, lows, groups, cond, group, op, s, low, e) (undefined-held w addr)) also
         (λ e. simp (controls, lows, groups, cond, group, op, s, low, e) (holds refl)) also
@@ -108,8 +108,7 @@ module _ (w addr : ℕ) (cond : eqb (field w 28 4) 15 ≡ false) (group : field 
         (λ e. simp (controls, lows, groups, cond, group, op, s, low, e) (undefined-held w addr)) also tt)
 
     pub exchange-link : field w 4 4 ≡ 3 → HeldAt w addr
-    unfolding decodeOf groupOf dpMiscOf D.plainOf controlOf saidOf pageOf standingOf A.tableRow A.dataProcessing A.miscellaneous
-    exchange-link low =
+    exchange-link low = unfold decodeOf groupOf dpMiscOf D.plainOf controlOf saidOf pageOf standingOf A.tableRow A.dataProcessing A.miscellaneous in
         by-field w 21 2
         ((λ e. simp (controls, lows, groups, cond, group, op, s, low, e) (undefined-held w addr)) also
         (λ e. simp (controls, lows, groups, cond, group, op, s, low, e) (holds refl)) also
@@ -117,8 +116,7 @@ module _ (w addr : ℕ) (cond : eqb (field w 28 4) 15 ≡ false) (group : field 
         (λ e. simp (controls, lows, groups, cond, group, op, s, low, e) (undefined-held w addr)) also tt)
 
     pub none : field w 4 4 ≡ 4 → HeldAt w addr
-    unfolding decodeOf groupOf dpMiscOf D.plainOf controlOf saidOf pageOf standingOf A.tableRow A.dataProcessing A.miscellaneous
-    none low =
+    none low = unfold decodeOf groupOf dpMiscOf D.plainOf controlOf saidOf pageOf standingOf A.tableRow A.dataProcessing A.miscellaneous in
         by-field w 21 2
         ((λ e. simp (controls, lows, groups, cond, group, op, s, low, e) (undefined-held w addr)) also
         (λ e. simp (controls, lows, groups, cond, group, op, s, low, e) (undefined-held w addr)) also
@@ -135,8 +133,7 @@ module _ (w addr : ℕ) (cond : eqb (field w 28 4) 15 ≡ false) (group : field 
         (λ e. simp (controls, lows, groups, cond, group, op, s, low, e) (holds refl)) also tt)
 
     pub return : field w 4 4 ≡ 6 → HeldAt w addr
-    unfolding decodeOf groupOf dpMiscOf D.plainOf controlOf saidOf pageOf standingOf A.tableRow A.dataProcessing A.miscellaneous
-    return low =
+    return low = unfold decodeOf groupOf dpMiscOf D.plainOf controlOf saidOf pageOf standingOf A.tableRow A.dataProcessing A.miscellaneous in
         by-field w 21 2
         ((λ e. simp (controls, lows, groups, cond, group, op, s, low, e) (undefined-held w addr)) also
         (λ e. simp (controls, lows, groups, cond, group, op, s, low, e) (undefined-held w addr)) also
@@ -144,24 +141,24 @@ module _ (w addr : ℕ) (cond : eqb (field w 28 4) 15 ≡ false) (group : field 
         (λ e. simp (controls, lows, groups, cond, group, op, s, low, e) (holds refl)) also tt)
 
     pub breakpoint : field w 4 4 ≡ 7 → HeldAt w addr
-    unfolding decodeOf groupOf dpMiscOf D.plainOf controlOf saidOf pageOf standingOf A.tableRow A.dataProcessing A.miscellaneous
-    breakpoint low =
+    breakpoint low = unfold decodeOf groupOf dpMiscOf D.plainOf controlOf saidOf pageOf standingOf A.tableRow A.dataProcessing A.miscellaneous in
         by-field w 21 2
         ((λ e. simp (controls, lows, groups, cond, group, op, s, low, e) (undefined-held w addr)) also
-        (λ e. split (eqb (field w 28 4) 14) (λ c. simp (controls, lows, groups, cond, group, op, s, low, e) (holds (simp (c, eqb-true (field w 28 4) 14 c)))) (λ c. simp (controls, lows, groups, cond, group, op, s, low, e) (holds (simp c (refl, conditions c))))) also
+        (λ e. split (eqb (field w 28 4) 14) (λ c. simp (controls, lows, groups, cond, group, op, s, low, e)
+        (holds (simp (c, eqb-true (field w 28 4) 14 c)))) (λ c. simp (controls, lows, groups, cond, group, op, s, low, e)
+        (holds (simp c (refl, conditions c))))) also
         (λ e. simp (controls, lows, groups, cond, group, op, s, low, e) (holds refl)) also
         (λ e. simp (controls, lows, groups, cond, group, op, s, low, e) (holds refl)) also tt)
 
     -- the halfword multiplies: a page reads four names, or two, that stand in a row
     module _ (seven : field w 7 1 ≡ 1) (four : field w 4 1 ≡ 0) where
       pub halfword : HeldAt w addr
-      unfolding decodeOf groupOf dpMiscOf D.plainOf controlOf saidOf pageOf standingOf A.tableRow A.dataProcessing A.halfwordMultiply
-      halfword =
+      halfword = unfold decodeOf groupOf dpMiscOf D.plainOf controlOf saidOf pageOf standingOf A.tableRow A.dataProcessing A.halfwordMultiply in
           by-field w 21 2
-          ((λ e. simp (controls, low-bits, groups, cond, group, op, s, seven, four, e) (holds (simp (← halves-is w N.SMLABB)))) also
+          ((λ e. simp (controls, low-bits, groups, cond, group, op, s, seven, four, e) (holds (simp (← halves-is w (name "smlabb"))))) also
           (λ e.
           by-field w 5 1
-          ((λ x. simp (controls, low-bits, groups, cond, group, op, s, seven, four, e, x) (holds (simp (← half-is w N.SMLAWB)))) also
-          (λ x. simp (controls, low-bits, groups, cond, group, op, s, seven, four, e, x) (holds (simp (← half-is w N.SMULWB)))) also tt)) also
-          (λ e. simp (controls, low-bits, groups, cond, group, op, s, seven, four, e) (holds (simp (← halves-is w N.SMLALBB)))) also
-          (λ e. simp (controls, low-bits, groups, cond, group, op, s, seven, four, e) (holds (simp (← halves-is w N.SMULBB)))) also tt)
+          ((λ x. simp (controls, low-bits, groups, cond, group, op, s, seven, four, e, x) (holds (simp (← half-is w (name "smlawb"))))) also
+          (λ x. simp (controls, low-bits, groups, cond, group, op, s, seven, four, e, x) (holds (simp (← half-is w (name "smulwb"))))) also tt)) also
+          (λ e. simp (controls, low-bits, groups, cond, group, op, s, seven, four, e) (holds (simp (← halves-is w (name "smlalbb"))))) also
+          (λ e. simp (controls, low-bits, groups, cond, group, op, s, seven, four, e) (holds (simp (← halves-is w (name "smulbb"))))) also tt)

@@ -7,13 +7,13 @@ use Prim.Native.String.{String}
 use lib.Dec.{eqb}
 use lib.IntN.{pos}
 use Rattle.word.specs.Field.{field}
-use Rattle.insn.specs.Name as N
+use Rattle.insn.specs.Roots.{name}
 use Rattle.insn.specs.declared.Operand.{Operand}
 use Rattle.insn.specs.declared.Operand.the-variants.{Count}
-use Rattle.arm.specs.Row.{regOf, answer, byS, pcFlow}
-use Rattle.arm.specs.Shifts as S
-use Rattle.dp.specs.DpReg.{movFlow}
-use Rattle.dp.specs.Names.{dpName, shiftName}
+use Rattle.a32_shared.specs.Row.{regOf, answer, byS, pcFlow}
+use Rattle.a32_shared.specs.Shifts as S
+use Rattle.a32_dp.specs.DpReg.{movFlow}
+use Rattle.a32_dp.specs.Names.{dpName, shiftName}
 use Rattle.a32.specs.Decode as D
 use Rattle.a32.specs.Decode.{decodeOf, groupOf, dpMiscOf, controlOf}
 use Rattle.manual.specs.A5 as A
@@ -62,42 +62,54 @@ module _ (w addr : ℕ) (cond : eqb (field w 28 4) 15 ≡ false) (group : field 
     counted row plain s n c = alu-page w addr row _ _ _ _ _ (by-flags w plain s) (ap (λ (o : Operand). R w 12 ∷ R w 0 ∷ o ∷ []) c)
 
     mov : field w 21 4 ≡ 13 → HeldAt w addr
-    unfolding decodeOf groupOf dpMiscOf D.plainOf controlOf shiftName S.plainOf S.rrxOf saidOf pageOf otherPageOf standingOf A.tableRow A.dataProcessing A.dataProcessingRegister
+    unfolding decodeOf groupOf dpMiscOf D.plainOf controlOf shiftName S.plainOf S.rrxOf saidOf pageOf otherPageOf standingOf A.tableRow
+        A.dataProcessing A.dataProcessingRegister
     mov op =
         split (eqb (field w 7 5) 0)
         (λ z. by-field w 5 2
-        ((λ e. simp (here, cond, group, low, op, z, e) (holds (moved "MOV (register, ARM)" N.MOV N.MOVS (refl, refl, refl, refl)))) also
-        (λ e. simp (here, cond, group, low, op, z, e) (holds (counted "LSR (immediate)" N.LSR N.LSRS _ (simp (z, e)) (refl, refl, refl, refl)))) also
-        (λ e. simp (here, cond, group, low, op, z, e) (holds (counted "ASR (immediate)" N.ASR N.ASRS _ (simp (z, e)) (refl, refl, refl, refl)))) also
-        (λ e. simp (here, cond, group, low, op, z, e) (holds (rotated "RRX" N.RRX N.RRXS (refl, refl, refl, refl)))) also
+        ((λ e. simp (here, cond, group, low, op, z, e) (holds (moved "MOV (register, ARM)" (name "mov") (name "movs") (refl, refl, refl, refl)))) also
+        (λ e. simp (here, cond, group, low, op, z, e) (holds (counted "LSR (immediate)" (name "lsr") (name "lsrs") _ (simp (z, e))
+        (refl, refl, refl, refl)))) also
+        (λ e. simp (here, cond, group, low, op, z, e) (holds (counted "ASR (immediate)" (name "asr") (name "asrs") _ (simp (z, e))
+        (refl, refl, refl, refl)))) also
+        (λ e. simp (here, cond, group, low, op, z, e) (holds (rotated "RRX" (name "rrx") (name "rrxs") (refl, refl, refl, refl)))) also
         tt))
         (λ z. by-field w 5 2
-        ((λ e. simp (here, cond, group, low, op, z, e) (holds (counted "LSL (immediate)" N.LSL N.LSLS _ (simp (z, e)) (refl, refl, refl, refl)))) also
-        (λ e. simp (here, cond, group, low, op, z, e) (holds (counted "LSR (immediate)" N.LSR N.LSRS _ (simp (z, e)) (refl, refl, refl, refl)))) also
-        (λ e. simp (here, cond, group, low, op, z, e) (holds (counted "ASR (immediate)" N.ASR N.ASRS _ (simp (z, e)) (refl, refl, refl, refl)))) also
-        (λ e. simp (here, cond, group, low, op, z, e) (holds (counted "ROR (immediate)" N.ROR N.RORS _ (simp (z, e)) (refl, refl, refl, refl)))) also
+        ((λ e. simp (here, cond, group, low, op, z, e) (holds (counted "LSL (immediate)" (name "lsl") (name "lsls") _ (simp (z, e))
+        (refl, refl, refl, refl)))) also
+        (λ e. simp (here, cond, group, low, op, z, e) (holds (counted "LSR (immediate)" (name "lsr") (name "lsrs") _ (simp (z, e))
+        (refl, refl, refl, refl)))) also
+        (λ e. simp (here, cond, group, low, op, z, e) (holds (counted "ASR (immediate)" (name "asr") (name "asrs") _ (simp (z, e))
+        (refl, refl, refl, refl)))) also
+        (λ e. simp (here, cond, group, low, op, z, e) (holds (counted "ROR (immediate)" (name "ror") (name "rors") _ (simp (z, e))
+        (refl, refl, refl, refl)))) also
         tt))
 
     pub by-count : HeldAt w addr
-    unfolding decodeOf groupOf dpMiscOf D.plainOf controlOf dpName saidOf pageOf otherPageOf standingOf A.tableRow A.dataProcessing A.dataProcessingRegister
+    unfolding decodeOf groupOf dpMiscOf D.plainOf controlOf dpName saidOf pageOf otherPageOf standingOf A.tableRow A.dataProcessing
+        A.dataProcessingRegister
     by-count =
         by-field w 21 4
-        ((λ e. simp (here, cond, group, low, e) (holds (three "AND (register)" N.AND N.ANDS (refl, refl, refl, refl)))) also
-        (λ e. simp (here, cond, group, low, e) (holds (three "EOR (register)" N.EOR N.EORS (refl, refl, refl, refl)))) also
-        (λ e. simp (here, cond, group, low, e) (holds (three "SUB (register)" N.SUB N.SUBS (refl, refl, refl, refl)))) also
-        (λ e. simp (here, cond, group, low, e) (holds (three "RSB (register)" N.RSB N.RSBS (refl, refl, refl, refl)))) also
-        (λ e. simp (here, cond, group, low, e) (holds (three "ADD (register)" N.ADD N.ADDS (refl, refl, refl, refl)))) also
-        (λ e. simp (here, cond, group, low, e) (holds (three "ADC (register)" N.ADC N.ADCS (refl, refl, refl, refl)))) also
-        (λ e. simp (here, cond, group, low, e) (holds (three "SBC (register)" N.SBC N.SBCS (refl, refl, refl, refl)))) also
-        (λ e. simp (here, cond, group, low, e) (holds (three "RSC (register)" N.RSC N.RSCS (refl, refl, refl, refl)))) also
-        (λ e. compares (simp (top-23-2, e)) (λ s. simp (here, cond, group, low, e, s) (holds (compare "TST (register)" N.TST (refl, refl, refl, refl))))) also
-        (λ e. compares (simp (top-23-2, e)) (λ s. simp (here, cond, group, low, e, s) (holds (compare "TEQ (register)" N.TEQ (refl, refl, refl, refl))))) also
-        (λ e. compares (simp (top-23-2, e)) (λ s. simp (here, cond, group, low, e, s) (holds (compare "CMP (register)" N.CMP (refl, refl, refl, refl))))) also
-        (λ e. compares (simp (top-23-2, e)) (λ s. simp (here, cond, group, low, e, s) (holds (compare "CMN (register)" N.CMN (refl, refl, refl, refl))))) also
-        (λ e. simp (here, cond, group, low, e) (holds (three "ORR (register)" N.ORR N.ORRS (refl, refl, refl, refl)))) also
+        ((λ e. simp (here, cond, group, low, e) (holds (three "AND (register)" (name "and") (name "ands") (refl, refl, refl, refl)))) also
+        (λ e. simp (here, cond, group, low, e) (holds (three "EOR (register)" (name "eor") (name "eors") (refl, refl, refl, refl)))) also
+        (λ e. simp (here, cond, group, low, e) (holds (three "SUB (register)" (name "sub") (name "subs") (refl, refl, refl, refl)))) also
+        (λ e. simp (here, cond, group, low, e) (holds (three "RSB (register)" (name "rsb") (name "rsbs") (refl, refl, refl, refl)))) also
+        (λ e. simp (here, cond, group, low, e) (holds (three "ADD (register)" (name "add") (name "adds") (refl, refl, refl, refl)))) also
+        (λ e. simp (here, cond, group, low, e) (holds (three "ADC (register)" (name "adc") (name "adcs") (refl, refl, refl, refl)))) also
+        (λ e. simp (here, cond, group, low, e) (holds (three "SBC (register)" (name "sbc") (name "sbcs") (refl, refl, refl, refl)))) also
+        (λ e. simp (here, cond, group, low, e) (holds (three "RSC (register)" (name "rsc") (name "rscs") (refl, refl, refl, refl)))) also
+        (λ e. compares (simp (top-23-2, e)) (λ s. simp (here, cond, group, low, e, s) (holds (compare "TST (register)" (name "tst")
+        (refl, refl, refl, refl))))) also
+        (λ e. compares (simp (top-23-2, e)) (λ s. simp (here, cond, group, low, e, s) (holds (compare "TEQ (register)" (name "teq")
+        (refl, refl, refl, refl))))) also
+        (λ e. compares (simp (top-23-2, e)) (λ s. simp (here, cond, group, low, e, s) (holds (compare "CMP (register)" (name "cmp")
+        (refl, refl, refl, refl))))) also
+        (λ e. compares (simp (top-23-2, e)) (λ s. simp (here, cond, group, low, e, s) (holds (compare "CMN (register)" (name "cmn")
+        (refl, refl, refl, refl))))) also
+        (λ e. simp (here, cond, group, low, e) (holds (three "ORR (register)" (name "orr") (name "orrs") (refl, refl, refl, refl)))) also
         mov also
-        (λ e. simp (here, cond, group, low, e) (holds (three "BIC (register)" N.BIC N.BICS (refl, refl, refl, refl)))) also
-        (λ e. simp (here, cond, group, low, e) (holds (two "MVN (register)" N.MVN N.MVNS (refl, refl, refl, refl)))) also
+        (λ e. simp (here, cond, group, low, e) (holds (three "BIC (register)" (name "bic") (name "bics") (refl, refl, refl, refl)))) also
+        (λ e. simp (here, cond, group, low, e) (holds (two "MVN (register)" (name "mvn") (name "mvns") (refl, refl, refl, refl)))) also
         tt)
 
   -- Rm, shifted by Rs
@@ -111,33 +123,54 @@ module _ (w addr : ℕ) (cond : eqb (field w 28 4) 15 ≡ false) (group : field 
     compare-by row name = next-page w addr row name (R w 16 ∷ registerShifted w) _ _ _ refl refl
 
     shift-by : field w 21 4 ≡ 13 → HeldAt w addr
-    unfolding decodeOf groupOf dpMiscOf D.plainOf controlOf shiftName S.plainOf S.rrxOf saidOf pageOf otherPageOf standingOf A.tableRow A.dataProcessing A.dataProcessingShifted
+    unfolding decodeOf groupOf dpMiscOf D.plainOf controlOf shiftName S.plainOf S.rrxOf saidOf pageOf otherPageOf standingOf A.tableRow
+        A.dataProcessing A.dataProcessingShifted
     shift-by op =
         by-field w 5 2
-        ((λ e. simp (here, cond, group, low, seven, op, e) (holds (with-register "LSL (register)" N.LSL N.LSLS (R w 12 ∷ R w 0 ∷ R w 8 ∷ []) (refl, refl, refl, refl)))) also
-        (λ e. simp (here, cond, group, low, seven, op, e) (holds (with-register "LSR (register)" N.LSR N.LSRS (R w 12 ∷ R w 0 ∷ R w 8 ∷ []) (refl, refl, refl, refl)))) also
-        (λ e. simp (here, cond, group, low, seven, op, e) (holds (with-register "ASR (register)" N.ASR N.ASRS (R w 12 ∷ R w 0 ∷ R w 8 ∷ []) (refl, refl, refl, refl)))) also
-        (λ e. simp (here, cond, group, low, seven, op, e) (holds (with-register "ROR (register)" N.ROR N.RORS (R w 12 ∷ R w 0 ∷ R w 8 ∷ []) (refl, refl, refl, refl)))) also
+        ((λ e. simp (here, cond, group, low, seven, op, e) (holds (with-register "LSL (register)" (name "lsl") (name "lsls")
+        (R w 12 ∷ R w 0 ∷ R w 8 ∷ []) (refl, refl, refl, refl)))) also
+        (λ e. simp (here, cond, group, low, seven, op, e) (holds (with-register "LSR (register)" (name "lsr") (name "lsrs")
+        (R w 12 ∷ R w 0 ∷ R w 8 ∷ []) (refl, refl, refl, refl)))) also
+        (λ e. simp (here, cond, group, low, seven, op, e) (holds (with-register "ASR (register)" (name "asr") (name "asrs")
+        (R w 12 ∷ R w 0 ∷ R w 8 ∷ []) (refl, refl, refl, refl)))) also
+        (λ e. simp (here, cond, group, low, seven, op, e) (holds (with-register "ROR (register)" (name "ror") (name "rors")
+        (R w 12 ∷ R w 0 ∷ R w 8 ∷ []) (refl, refl, refl, refl)))) also
         tt)
 
     pub by-register : HeldAt w addr
-    unfolding decodeOf groupOf dpMiscOf D.plainOf controlOf dpName saidOf pageOf otherPageOf standingOf A.tableRow A.dataProcessing A.dataProcessingShifted
+    unfolding decodeOf groupOf dpMiscOf D.plainOf controlOf dpName saidOf pageOf otherPageOf standingOf A.tableRow A.dataProcessing
+        A.dataProcessingShifted
     by-register =
         by-field w 21 4
-        ((λ e. simp (here, cond, group, low, seven, e) (holds (with-register "AND (register-shifted register)" N.AND N.ANDS (R w 12 ∷ R w 16 ∷ registerShifted w) (refl, refl, refl, refl)))) also
-        (λ e. simp (here, cond, group, low, seven, e) (holds (with-register "EOR (register-shifted register)" N.EOR N.EORS (R w 12 ∷ R w 16 ∷ registerShifted w) (refl, refl, refl, refl)))) also
-        (λ e. simp (here, cond, group, low, seven, e) (holds (with-register "SUB (register-shifted register)" N.SUB N.SUBS (R w 12 ∷ R w 16 ∷ registerShifted w) (refl, refl, refl, refl)))) also
-        (λ e. simp (here, cond, group, low, seven, e) (holds (with-register "RSB (register-shifted register)" N.RSB N.RSBS (R w 12 ∷ R w 16 ∷ registerShifted w) (refl, refl, refl, refl)))) also
-        (λ e. simp (here, cond, group, low, seven, e) (holds (with-register "ADD (register-shifted register)" N.ADD N.ADDS (R w 12 ∷ R w 16 ∷ registerShifted w) (refl, refl, refl, refl)))) also
-        (λ e. simp (here, cond, group, low, seven, e) (holds (with-register "ADC (register-shifted register)" N.ADC N.ADCS (R w 12 ∷ R w 16 ∷ registerShifted w) (refl, refl, refl, refl)))) also
-        (λ e. simp (here, cond, group, low, seven, e) (holds (with-register "SBC (register-shifted register)" N.SBC N.SBCS (R w 12 ∷ R w 16 ∷ registerShifted w) (refl, refl, refl, refl)))) also
-        (λ e. simp (here, cond, group, low, seven, e) (holds (with-register "RSC (register-shifted register)" N.RSC N.RSCS (R w 12 ∷ R w 16 ∷ registerShifted w) (refl, refl, refl, refl)))) also
-        (λ e. compares (simp (top-23-2, e)) (λ s. simp (here, cond, group, low, seven, e, s) (holds (compare-by "TST (register-shifted register)" N.TST (refl, refl, refl, refl))))) also
-        (λ e. compares (simp (top-23-2, e)) (λ s. simp (here, cond, group, low, seven, e, s) (holds (compare-by "TEQ (register-shifted register)" N.TEQ (refl, refl, refl, refl))))) also
-        (λ e. compares (simp (top-23-2, e)) (λ s. simp (here, cond, group, low, seven, e, s) (holds (compare-by "CMP (register-shifted register)" N.CMP (refl, refl, refl, refl))))) also
-        (λ e. compares (simp (top-23-2, e)) (λ s. simp (here, cond, group, low, seven, e, s) (holds (compare-by "CMN (register-shifted register)" N.CMN (refl, refl, refl, refl))))) also
-        (λ e. simp (here, cond, group, low, seven, e) (holds (with-register "ORR (register-shifted register)" N.ORR N.ORRS (R w 12 ∷ R w 16 ∷ registerShifted w) (refl, refl, refl, refl)))) also
+        ((λ e. simp (here, cond, group, low, seven, e) (holds (with-register "AND (register-shifted register)" (name "and") (name "ands")
+        (R w 12 ∷ R w 16 ∷ registerShifted w) (refl, refl, refl, refl)))) also
+        (λ e. simp (here, cond, group, low, seven, e) (holds (with-register "EOR (register-shifted register)" (name "eor") (name "eors")
+        (R w 12 ∷ R w 16 ∷ registerShifted w) (refl, refl, refl, refl)))) also
+        (λ e. simp (here, cond, group, low, seven, e) (holds (with-register "SUB (register-shifted register)" (name "sub") (name "subs")
+        (R w 12 ∷ R w 16 ∷ registerShifted w) (refl, refl, refl, refl)))) also
+        (λ e. simp (here, cond, group, low, seven, e) (holds (with-register "RSB (register-shifted register)" (name "rsb") (name "rsbs")
+        (R w 12 ∷ R w 16 ∷ registerShifted w) (refl, refl, refl, refl)))) also
+        (λ e. simp (here, cond, group, low, seven, e) (holds (with-register "ADD (register-shifted register)" (name "add") (name "adds")
+        (R w 12 ∷ R w 16 ∷ registerShifted w) (refl, refl, refl, refl)))) also
+        (λ e. simp (here, cond, group, low, seven, e) (holds (with-register "ADC (register-shifted register)" (name "adc") (name "adcs")
+        (R w 12 ∷ R w 16 ∷ registerShifted w) (refl, refl, refl, refl)))) also
+        (λ e. simp (here, cond, group, low, seven, e) (holds (with-register "SBC (register-shifted register)" (name "sbc") (name "sbcs")
+        (R w 12 ∷ R w 16 ∷ registerShifted w) (refl, refl, refl, refl)))) also
+        (λ e. simp (here, cond, group, low, seven, e) (holds (with-register "RSC (register-shifted register)" (name "rsc") (name "rscs")
+        (R w 12 ∷ R w 16 ∷ registerShifted w) (refl, refl, refl, refl)))) also
+        (λ e. compares (simp (top-23-2, e)) (λ s. simp (here, cond, group, low, seven, e, s) (holds
+        (compare-by "TST (register-shifted register)" (name "tst") (refl, refl, refl, refl))))) also
+        (λ e. compares (simp (top-23-2, e)) (λ s. simp (here, cond, group, low, seven, e, s) (holds
+        (compare-by "TEQ (register-shifted register)" (name "teq") (refl, refl, refl, refl))))) also
+        (λ e. compares (simp (top-23-2, e)) (λ s. simp (here, cond, group, low, seven, e, s) (holds
+        (compare-by "CMP (register-shifted register)" (name "cmp") (refl, refl, refl, refl))))) also
+        (λ e. compares (simp (top-23-2, e)) (λ s. simp (here, cond, group, low, seven, e, s) (holds
+        (compare-by "CMN (register-shifted register)" (name "cmn") (refl, refl, refl, refl))))) also
+        (λ e. simp (here, cond, group, low, seven, e) (holds (with-register "ORR (register-shifted register)" (name "orr") (name "orrs")
+        (R w 12 ∷ R w 16 ∷ registerShifted w) (refl, refl, refl, refl)))) also
         shift-by also
-        (λ e. simp (here, cond, group, low, seven, e) (holds (with-register "BIC (register-shifted register)" N.BIC N.BICS (R w 12 ∷ R w 16 ∷ registerShifted w) (refl, refl, refl, refl)))) also
-        (λ e. simp (here, cond, group, low, seven, e) (holds (with-register "MVN (register-shifted register)" N.MVN N.MVNS (R w 12 ∷ registerShifted w) (refl, refl, refl, refl)))) also
+        (λ e. simp (here, cond, group, low, seven, e) (holds (with-register "BIC (register-shifted register)" (name "bic") (name "bics")
+        (R w 12 ∷ R w 16 ∷ registerShifted w) (refl, refl, refl, refl)))) also
+        (λ e. simp (here, cond, group, low, seven, e) (holds (with-register "MVN (register-shifted register)" (name "mvn") (name "mvns")
+        (R w 12 ∷ registerShifted w) (refl, refl, refl, refl)))) also
         tt)

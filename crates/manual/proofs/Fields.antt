@@ -25,8 +25,7 @@ use Rattle.manual.specs.Stands.{Stands}
 
 -- a field of a field
 part : (w lo k lo' k' : ℕ) → leb (lo' + k') k ≡ true → field w (lo + lo') k' ≡ field w lo k / 2 ^ lo' % 2 ^ k'
-unfolding field
-part w lo k lo' k' h = sym (within w lo k lo' k' h)
+part w lo k lo' k' h = unfold field in sym (within w lo k lo' k' h)
 
 module _ (w : ℕ) where
   pub group-25 : field w 25 1 ≡ field w 25 3 / 1 % 2
@@ -298,7 +297,26 @@ module _ (w : ℕ) where
 pub ruleset ops = (op-24, op-23, op-22, op-21, op-20, op-23-2, op-21-2, op-21-3, op-21-4, op-20-4, op-20-3, op-20-2)
 
 -- the same by 24:21, with bit 20 left open
-pub ruleset tops = (← op-24, ← op-23, ← op-22, ← op-21, ← op-20, top-24, top-23, top-22, top-21, top-23-2, whole-16, whole-17, whole-18, whole-19, whole-20, whole-21, whole-22, whole-23)
+pub ruleset tops = (
+  ← op-24,
+  ← op-23,
+  ← op-22,
+  ← op-21,
+  ← op-20,
+  top-24,
+  top-23,
+  top-22,
+  top-21,
+  top-23-2,
+  whole-16,
+  whole-17,
+  whole-18,
+  whole-19,
+  whole-20,
+  whole-21,
+  whole-22,
+  whole-23,
+)
 
 -- the same by 24:23, 22:21 and bit 20
 pub ruleset controls = (control-20-5, control-22, control-21)
@@ -346,8 +364,7 @@ each P (suc n) i all (suc k) h = subst P (suc-add i k ∙ sym (add-suc i k)) (ea
 
 -- by the values of a field
 pub by-field : {C : Type 0} (w lo k : ℕ) → Each (λ (v : ℕ). field w lo k ≡ v → C) 0 (2 ^ k) → C
-by-field {C = C} w lo k all =
-    each (λ (v : ℕ). field w lo k ≡ v → C) (2 ^ k) 0 all (field w lo k) (small w lo k) (sym (zero-add _))
+by-field {C = C} w lo k all = each (λ (v : ℕ). field w lo k ≡ v → C) (2 ^ k) 0 all (field w lo k) (small w lo k) (sym (zero-add _))
 
 -- a bit that is one is not zero, and the other way round
 pub bit-test : (w n : ℕ) → eqb (field w n 1) 1 ≡ not (eqb (field w n 1) 0)
@@ -404,7 +421,8 @@ branches {a = a} {n = n} {c = c} {o = o} =
     apart (λ (d : Decoded). flowNumber (d .insn .flow)) (accepted (insnOf a n c IndirectBranch o)) (accepted (insnOf a n c Next o)) refl
 
 -- an answer under a condition is not one under another
-pub conditions : {a n : ℕ} {c : ℕ} {f : Flow} {o : List Place} → eqb c 14 ≡ false → accepted (insnOf a n (record { 0 = c }) f o) ≡ accepted (insnOf a n (record { 0 = 14 }) f o) → ⊥
+pub conditions : {a n : ℕ} {c : ℕ} {f : Flow} {o : List Place} → eqb c 14 ≡ false → accepted (insnOf a n (record { 0 = c }) f o) ≡ accepted
+    (insnOf a n (record { 0 = 14 }) f o) → ⊥
 conditions {a = a} {n = n} {c = c} {f = f} {o = o} =
     apart (λ (d : Decoded). d .insn .cond .0) (accepted (insnOf a n (record { 0 = c }) f o)) (accepted (insnOf a n (record { 0 = 14 }) f o))
 

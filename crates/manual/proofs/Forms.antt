@@ -9,7 +9,8 @@ use Rattle.insn.specs.Numbers.{modeNumber, flowNumber}
 use Rattle.insn.specs.declared.Decoded.{Decoded}
 use Rattle.insn.specs.declared.Mem.{Mem}
 use Rattle.insn.specs.declared.Operand.{Operand}
-use Rattle.insn.specs.declared.Operand.the-variants.{Empty, Register, Shifted, ShiftBy, SaturateShift, Rotate, Count, Number, StatusMask, StatusSource, WriteBack, Address, Memory, Option}
+use Rattle.insn.specs.declared.Operand.the-variants.{Empty, Register, Shifted, ShiftBy, SaturateShift, Rotate, Count, Number, StatusMask}
+use Rattle.insn.specs.declared.Operand.the-variants.{StatusSource, WriteBack, Address, Memory, Option}
 use Rattle.insn.specs.declared.Operand.the-variants as Op
 
 abbrev none : Mem

@@ -11,8 +11,8 @@ use Rattle.insn.specs.Answer.{refused}
 use Rattle.insn.specs.declared.Flow.{Flow}
 use Rattle.insn.specs.declared.Flow.the-variants.{Next}
 use Rattle.insn.specs.declared.Operand.{Operand}
-use Rattle.arm.specs.Row.{answer, byS, pcFlow}
-use Rattle.manual.specs.A8.{names, saidOf, pageOf, otherPageOf, reading}
+use Rattle.a32_shared.specs.Row.{answer, byS, pcFlow}
+use Rattle.manual.specs.A8.{names, saidOf, pageOf, otherPageOf, readingAs}
 use Rattle.manual.specs.Departures.{Departure, standingOf, follows, departs, subs-pc-lr, portOf, branching, answered}
 use Rattle.manual.specs.Reads.{isSet, setflags}
 use Rattle.manual.specs.Stands.{Stands}
@@ -22,12 +22,10 @@ abbrev pub returns : String
 returns = "SUBS PC, LR and related instructions"
 
 returns-said : (w addr : ℕ) → saidOf w addr returns ≡ names returns
-unfolding saidOf
-returns-said w addr = refl
+returns-said w addr = unfold saidOf in refl
 
 returns-stands : (w : ℕ) → standingOf returns w ≡ departs subs-pc-lr
-unfolding standingOf
-returns-stands w = refl
+returns-stands w = unfold standingOf in refl
 
 -- "setflags" chooses as bit 20 does
 pub by-flags : (w plain s : ℕ) → setflags w plain s ≡ byS w plain s
@@ -38,7 +36,7 @@ module _ (w addr : ℕ) (row : String) (name : ℕ) (flow : Flow) (ops : List Op
   -- a result to Rd: 15 with bit 20 set is SUBS PC, LR and its like
   abbrev pub Alu : Type 0
   Alu =
-      (saidOf w addr row ≡ reading w addr name flow ops)
+      (saidOf w addr row ≡ readingAs w addr name flow ops)
       × (pageOf row w ≡ pick (both (eqb (field w 12 4) 15) (isSet w 20)) returns row)
       × (otherPageOf row w ≡ row)
       × (standingOf row w ≡ follows)
@@ -53,7 +51,7 @@ module _ (w addr : ℕ) (row : String) (name : ℕ) (flow : Flow) (ops : List Op
 module _ (w addr : ℕ) (row : String) (name : ℕ) (ops : List Operand) (it : Departure) where
   abbrev pub Goes : Type 0
   Goes =
-      (saidOf w addr row ≡ reading w addr name Next ops)
+      (saidOf w addr row ≡ readingAs w addr name Next ops)
       × (pageOf row w ≡ row)
       × (standingOf row w ≡ pick (eqb (field w 12 4) 15) (departs it) follows)
       × (portOf w addr it row row ≡ branching (answered (saidOf w addr row)))
@@ -67,16 +65,16 @@ module _ (w addr : ℕ) (row : String) (name : ℕ) (ops : List Operand) (it : D
 -- a page without a departure
 module _ (w addr : ℕ) (row : String) (name : ℕ) (flow : Flow) (ops : List Operand) where
   abbrev pub Read : Type 0
-  Read = (saidOf w addr row ≡ reading w addr name flow ops) × (pageOf row w ≡ row) × (standingOf row w ≡ follows)
+  Read = (saidOf w addr row ≡ readingAs w addr name flow ops) × (pageOf row w ≡ row) × (standingOf row w ≡ follows)
 
   pub read-page : (name' : ℕ) (ops' : List Operand) → name ≡ name' → ops ≡ ops' → Read → Stands row w addr (answer w addr name' flow ops')
   read-page name' ops' n o (said, page, stands) = simp (page, stands, said, n, o)
 
 -- a row that is named and not read
-pub named : (w addr : ℕ) (row : String) → saidOf w addr row ≡ names row → pageOf row w ≡ row → standingOf row w ≡ follows → Held row w addr (refused 3)
+pub named : (w addr : ℕ) (row : String) → saidOf w addr row ≡ names row → pageOf row w ≡ row → standingOf row w ≡ follows
+    → Held row w addr (refused 3)
 named w addr row said page stands = holds (simp (page, stands, said))
 
 -- what is undefined is refused
 pub undefined-held : (w addr : ℕ) → Held "UNDEFINED" w addr (refused 3)
-unfolding saidOf pageOf standingOf
-undefined-held w addr = holds refl
+undefined-held w addr = unfold saidOf pageOf standingOf in holds refl

@@ -5,22 +5,20 @@ use Prim.Native.Nat.{ℕ, _*_, _/_, _%_, _^_, _<_}
 use lib.Dec.{eqb, eqb→eq}
 use Rattle.word.specs.Every.{at-each}
 use Rattle.word.specs.Field.{field, small}
-use Rattle.arm.specs.Shifts.{shiftedOf, plainOf}
-use Rattle.imm.specs.Imm.{immOf, soImmOf, byteOf, rotationOf}
-use Rattle.media.specs.Media.{satShiftOf}
+use Rattle.a32_shared.specs.Shifts.{shiftedOf, plainOf}
+use Rattle.a32_imm.specs.Imm.{immOf, soImmOf, byteOf, rotationOf}
+use Rattle.a32_media.specs.Media.{satShiftOf}
 use Rattle.manual.specs.Reads.{constant, shifted, ARMExpandImm, saturateShift}
 use Rattle.manual.proofs.Fields.{by-field, split, _also_}
 
 pub shifted-is : (w : ℕ) → shifted w ≡ shiftedOf w
-unfolding shifted plainOf
-shifted-is w =
+shifted-is w = unfold shifted plainOf in
     split (eqb (field w 7 5) 0)
     (λ z. by-field w 5 2 ((λ e. simp (z, e)) also (λ e. simp (z, e)) also (λ e. simp (z, e)) also (λ e. simp (z, e)) also tt))
     (λ z. by-field w 5 2 ((λ e. simp (z, e)) also (λ e. simp (z, e)) also (λ e. simp (z, e)) also (λ e. simp (z, e)) also tt))
 
 pub saturate-is : (w : ℕ) → saturateShift w ≡ satShiftOf w
-unfolding saturateShift
-saturate-is w =
+saturate-is w = unfold saturateShift in
     split (eqb (field w 7 5) 0)
     (λ z. by-field w 6 1 ((λ e. simp (z, e)) also (λ e. simp (z, e)) also tt))
     (λ z. by-field w 6 1 ((λ e. simp (z, e)) also (λ e. simp (z, e)) also tt))
@@ -28,16 +26,13 @@ saturate-is w =
 -- over all 4,096 fields
 module _ (imm12 : ℕ) (h : imm12 < 4096) where
   expands : ARMExpandImm imm12 ≡ soImmOf imm12
-  unfolding field soImmOf ARMExpandImm
-  expands = eqb→eq _ (soImmOf imm12) (at-each (λ i. eqb (ARMExpandImm i) (soImmOf i)) 4096 tt imm12 h)
+  expands = unfold field soImmOf ARMExpandImm in eqb→eq _ (soImmOf imm12) (at-each (λ i. eqb (ARMExpandImm i) (soImmOf i)) 4096 tt imm12 h)
 
   byte : imm12 % 2 ^ 8 ≡ byteOf imm12
-  unfolding field
-  byte = eqb→eq _ (byteOf imm12) (at-each (λ i. eqb (i % 2 ^ 8) (byteOf i)) 4096 tt imm12 h)
+  byte = unfold field in eqb→eq _ (byteOf imm12) (at-each (λ i. eqb (i % 2 ^ 8) (byteOf i)) 4096 tt imm12 h)
 
   turn : imm12 / 2 ^ 8 ≡ rotationOf imm12
-  unfolding field
-  turn = eqb→eq _ (rotationOf imm12) (at-each (λ i. eqb (i / 2 ^ 8) (rotationOf i)) 4096 tt imm12 h)
+  turn = unfold field in eqb→eq _ (rotationOf imm12) (at-each (λ i. eqb (i / 2 ^ 8) (rotationOf i)) 4096 tt imm12 h)
 
 module _ (w : ℕ) where
   expands-is : ARMExpandImm (field w 0 12) ≡ soImmOf (field w 0 12)

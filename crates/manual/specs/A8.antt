@@ -2,9 +2,9 @@
 -- reads. The pages stand in the order of A5's tables. A row without a page here is named and not read.
 --
 -- Bits that a page draws in parentheses should be as drawn, and are not tested: 19:16 of MOV, MVN and the shifts; 15:12 of the compares, of MUL,
--- SMUL<x><y>, SMULW<y>, SDIV, UDIV, MSR and the hints; 19:16, 11:10, 8 and 3:0 of MRS; 11:10 and 8 of MSR; 19:8 of BX, BXJ and BLX; 19:16 and 11:8 of CLZ and the
--- reversals; 11:8 of the saturating adds, the exclusives, the hints and the extra forms by register, and 3:0 of the exclusive loads; 9:8 of the
--- extends; 24 and 21 of the loads from R[15]; 15:12 of the preloads; 19:8 of CLREX and the barriers, and 3:0 of CLREX.
+-- SMUL<x><y>, SMULW<y>, SDIV, UDIV, MSR and the hints; 19:16, 11:10, 8 and 3:0 of MRS; 11:10 and 8 of MSR; 19:8 of BX, BXJ and BLX; 19:16 and 11:8 of
+-- CLZ and the reversals; 11:8 of the saturating adds, the exclusives, the hints and the extra forms by register, and 3:0 of the exclusive loads; 9:8
+-- of the extends; 24 and 21 of the loads from R[15]; 15:12 of the preloads; 19:8 of CLREX and the barriers, and 3:0 of CLREX.
 use mathlib.Core.Bool.{Bool, true, false, not}
 use mathlib.Core.List.{List, [], _∷_, _++_}
 use Prim.Native.Nat.{ℕ, _+_, _-_, _*_, _%_, _^_}
@@ -16,7 +16,7 @@ use lib.Text.{eqt}
 use Rattle.word.specs.Choice.{pick, both}
 use Rattle.word.specs.Field.{field}
 use Rattle.insn.specs.Answer.{insnOf, places, accepted}
-use Rattle.insn.specs.Name as N
+use Rattle.insn.specs.Roots.{name}
 use Rattle.insn.specs.declared.AddrMode.{AddrMode}
 use Rattle.insn.specs.declared.AddrMode.the-variants.{Offset, PostIndex}
 use Rattle.insn.specs.declared.Decoded.{Decoded}
@@ -28,7 +28,8 @@ use Rattle.insn.specs.declared.Operand.the-variants.{Register, Count, Number, S
 use Rattle.insn.specs.declared.Operand.the-variants as Op
 use Rattle.insn.specs.declared.Status.the-variants.{Apsr, Spsr}
 use Rattle.manual.specs.A5.{tableRow}
-use Rattle.manual.specs.Reads.{isSet, R, setflags, half, halves, writesPC, branchesTo, DecodeImmShift, shifted, registerShifted, shiftCount, constant, SignExtend, addressing, offset, isMinusZero, memory, isPost, indexed, saturateShift, rotation}
+use Rattle.manual.specs.Reads.{isSet, R, setflags, half, halves, writesPC, branchesTo, DecodeImmShift, shifted, registerShifted, shiftCount}
+use Rattle.manual.specs.Reads.{constant, SignExtend, addressing, offset, isMinusZero, memory, isPost, indexed, saturateShift, rotation}
 
 abbrev pub isAmong : String → List String → Bool
 isAmong row [] = false
@@ -156,64 +157,69 @@ saidAmong row (p ∷ ps) = pick (eqt row (p .title)) (p .said) (saidAmong row ps
 
 module _ (w addr : ℕ) where
   -- under a condition, "<c>"; and without one
-  abbrev pub reading : ℕ → Flow → List Operand → Said
-  reading name flow ops = reads (accepted (insnOf addr name (record { 0 = field w 28 4 }) flow (places ops)))
+  abbrev pub readingAs : ℕ → Flow → List Operand → Said
+  readingAs number flow ops = reads (accepted (insnOf addr number (record { 0 = field w 28 4 }) flow (places ops)))
 
-  abbrev pub always : ℕ → Flow → List Operand → Said
-  always name flow ops = reads (accepted (insnOf addr name (record { 0 = 14 }) flow (places ops)))
+  abbrev pub reading : String → Flow → List Operand → Said
+  reading root = readingAs (name root)
+
+  abbrev pub always : String → Flow → List Operand → Said
+  always root flow ops = reads (accepted (insnOf addr (name root) (record { 0 = 14 }) flow (places ops)))
 
   -- data-processing: with a result, and with none
-  abbrev pub alu : ℕ → ℕ → List Operand → Said
-  alu plain s ops = reading (setflags w plain s) (writesPC w) ops
+  abbrev pub alu : String → String → List Operand → Said
+  alu plain s ops = readingAs (setflags w (name plain) (name s)) (writesPC w) ops
 
-  abbrev pub test : ℕ → List Operand → Said
-  test name ops = reading name Next ops
+  abbrev pub test : String → List Operand → Said
+  test root ops = reading root Next ops
 
   -- register-shifted: "if d == 15 .. then UNPREDICTABLE", and no ALUWritePC
-  abbrev pub byRegister : ℕ → ℕ → List Operand → Said
-  byRegister plain s ops = reading (setflags w plain s) Next ops
+  abbrev pub byRegister : String → String → List Operand → Said
+  byRegister plain s ops = readingAs (setflags w (name plain) (name s)) Next ops
 
   -- loads and stores of a word or byte, and the extra ones, which 01 shows in base ten. "P == '0' && W == '1'" are other pages, LDRT and
   -- its like, which are read alike with index = FALSE
-  abbrev pub transfers : ℕ → Flow → AddrMode → Bool → Said
-  transfers name flow mode marked = reading name flow (R w 12 ∷ memory (field w 16 4) Absent (offset w (field w 0 12)) mode size (isPost mode) marked ∷ [])
+  abbrev pub transfers : String → Flow → AddrMode → Bool → Said
+  transfers root flow mode marked =
+      reading root flow (R w 12 ∷ memory (field w 16 4) Absent (offset w (field w 0 12)) mode size (isPost mode) marked ∷ [])
     where
       size : ℕ
       size = pick (isSet w 22) 1 4
 
   -- "imm32 = ZeroExtend(imm12, 32)"
-  abbrev pub immediate : ℕ → Flow → Said
-  immediate name flow = transfers name flow (addressing w) (isMinusZero w (field w 0 12))
+  abbrev pub immediate : String → Flow → Said
+  immediate root flow = transfers root flow (addressing w) (isMinusZero w (field w 0 12))
 
   -- from R[15], of which 24 should be one and 21 zero
-  abbrev pub literal : ℕ → Flow → Said
-  literal name flow = transfers name flow Offset (isMinusZero w (field w 0 12))
+  abbrev pub literal : String → Flow → Said
+  literal root flow = transfers root flow Offset (isMinusZero w (field w 0 12))
 
   -- with R[m], "(shift_t, shift_n) = DecodeImmShift(type, imm5)". 01's answer has a place for an index that is added and shifted left
-  abbrev pub withIndex : String → ℕ → Flow → Said
-  withIndex title name flow =
+  abbrev pub withIndex : String → String → Flow → Said
+  withIndex title root flow =
       pick (both (isSet w 23) (eqb (field w 5 2) 0))
-      (reading name flow (R w 12 ∷ memory (field w 16 4) (indexed (field w 0 4) (field w 7 5)) (pos 0) (addressing w) size (isPost (addressing w)) false ∷ []))
+      (reading root flow (R w 12 ∷ memory (field w 16 4) (indexed (field w 0 4) (field w 7 5)) (pos 0) (addressing w) size
+      (isPost (addressing w)) false ∷ []))
       (beyond title)
     where
       size : ℕ
       size = pick (isSet w 22) 1 4
 
   -- A8.8.92 and its like: bit 25 tells the two encodings apart
-  abbrev pub unprivileged : String → ℕ → Said
-  unprivileged title name = pick (isSet w 25) (withIndex title name Next) (immediate name Next)
+  abbrev pub unprivileged : String → String → Said
+  unprivileged title root = pick (isSet w 25) (withIndex title root Next) (immediate root Next)
 
   -- "if t == 15 then .. LoadWritePC(data)" is of LDR alone
   abbrev pub imm8 : ℕ
   imm8 = field w 8 4 * 2 ^ 4 + field w 0 4
 
-  abbrev pub extra : ℕ → ℕ → List Operand → AddrMode → Said
-  extra name size to mode = reading name Next (to ++ (memory (field w 16 4) Absent (offset w imm8) mode size true (isMinusZero w imm8) ∷ []))
+  abbrev pub extra : String → ℕ → List Operand → AddrMode → Said
+  extra root size to mode = reading root Next (to ++ (memory (field w 16 4) Absent (offset w imm8) mode size true (isMinusZero w imm8) ∷ []))
 
-  abbrev pub extraIndex : String → ℕ → ℕ → List Operand → Said
-  extraIndex title name size to =
+  abbrev pub extraIndex : String → String → ℕ → List Operand → Said
+  extraIndex title root size to =
       pick (isSet w 23)
-      (reading name Next (to ++ (memory (field w 16 4) (indexed (field w 0 4) 0) (pos 0) (addressing w) size true false ∷ [])))
+      (reading root Next (to ++ (memory (field w 16 4) (indexed (field w 0 4) 0) (pos 0) (addressing w) size true false ∷ [])))
       (beyond title)
 
   -- "t = UInt(Rt)"; "t2 = t+1"
@@ -223,8 +229,8 @@ module _ (w addr : ℕ) where
   abbrev pub pair : List Operand
   pair = R w 12 ∷ Register (record { 0 = field w 12 4 + 1 }) ∷ []
 
-  abbrev pub exclusive : ℕ → ℕ → List Operand → Said
-  exclusive name size ops = reading name Next (ops ++ (memory (field w 16 4) Absent (pos 0) Offset size false false ∷ []))
+  abbrev pub exclusive : String → ℕ → List Operand → Said
+  exclusive root size ops = reading root Next (ops ++ (memory (field w 16 4) Absent (pos 0) Offset size false false ∷ []))
 
   -- the status register's fields, R then mask
   abbrev pub mask : Operand
@@ -251,11 +257,11 @@ module _ (w addr : ℕ) where
   abbrev pub loadsPC : Flow
   loadsPC = pick (isSet w 15) (pick (eqb (field w 16 4) 13) Return IndirectBranch) Next
 
-  abbrev pub loadMultiple : ℕ → Said
-  loadMultiple name = reading name loadsPC (base ∷ registers ∷ [])
+  abbrev pub loadMultiple : String → Said
+  loadMultiple root = reading root loadsPC (base ∷ registers ∷ [])
 
-  abbrev pub storeMultiple : ℕ → Said
-  storeMultiple name = reading name Next (base ∷ registers ∷ [])
+  abbrev pub storeMultiple : String → Said
+  storeMultiple root = reading root Next (base ∷ registers ∷ [])
 
   -- PC is the instruction's address and 8 (A2.3.1); addresses have 32 bits
   abbrev pub fromPC : ℕ → ℕ
@@ -268,208 +274,212 @@ module _ (w addr : ℕ) where
   abbrev pub imm24H : ℕ
   imm24H = SignExtend (field w 0 24 * 4 + field w 24 1 * 2) 26
 
-  abbrev pub preload : ℕ → Said
-  preload name = reading name Next (memory (field w 16 4) Absent (offset w (field w 0 12)) Offset 1 false (isMinusZero w (field w 0 12)) ∷ [])
+  abbrev pub preload : String → Said
+  preload root = reading root Next (memory (field w 16 4) Absent (offset w (field w 0 12)) Offset 1 false (isMinusZero w (field w 0 12)) ∷ [])
 
   -- "option"
-  abbrev pub barrier : ℕ → Said
-  barrier name = reading name Next (Option (field w 0 4) ∷ [])
+  abbrev pub barrier : String → Said
+  barrier root = reading root Next (Option (field w 0 4) ∷ [])
 
   abbrev pub pages : List Page
   pages =
       -- A5.2.1
-      ("AND (register)" := alu N.AND N.ANDS (R w 12 ∷ R w 16 ∷ shifted w ∷ [])) ∷
-      ("EOR (register)" := alu N.EOR N.EORS (R w 12 ∷ R w 16 ∷ shifted w ∷ [])) ∷
-      ("SUB (register)" := alu N.SUB N.SUBS (R w 12 ∷ R w 16 ∷ shifted w ∷ [])) ∷
-      ("RSB (register)" := alu N.RSB N.RSBS (R w 12 ∷ R w 16 ∷ shifted w ∷ [])) ∷
-      ("ADD (register)" := alu N.ADD N.ADDS (R w 12 ∷ R w 16 ∷ shifted w ∷ [])) ∷
-      ("ADC (register)" := alu N.ADC N.ADCS (R w 12 ∷ R w 16 ∷ shifted w ∷ [])) ∷
-      ("SBC (register)" := alu N.SBC N.SBCS (R w 12 ∷ R w 16 ∷ shifted w ∷ [])) ∷
-      ("RSC (register)" := alu N.RSC N.RSCS (R w 12 ∷ R w 16 ∷ shifted w ∷ [])) ∷
-      ("TST (register)" := test N.TST (R w 16 ∷ shifted w ∷ [])) ∷
-      ("TEQ (register)" := test N.TEQ (R w 16 ∷ shifted w ∷ [])) ∷
-      ("CMP (register)" := test N.CMP (R w 16 ∷ shifted w ∷ [])) ∷
-      ("CMN (register)" := test N.CMN (R w 16 ∷ shifted w ∷ [])) ∷
-      ("ORR (register)" := alu N.ORR N.ORRS (R w 12 ∷ R w 16 ∷ shifted w ∷ [])) ∷
+      ("AND (register)" := alu "and" "ands" (R w 12 ∷ R w 16 ∷ shifted w ∷ [])) ∷
+      ("EOR (register)" := alu "eor" "eors" (R w 12 ∷ R w 16 ∷ shifted w ∷ [])) ∷
+      ("SUB (register)" := alu "sub" "subs" (R w 12 ∷ R w 16 ∷ shifted w ∷ [])) ∷
+      ("RSB (register)" := alu "rsb" "rsbs" (R w 12 ∷ R w 16 ∷ shifted w ∷ [])) ∷
+      ("ADD (register)" := alu "add" "adds" (R w 12 ∷ R w 16 ∷ shifted w ∷ [])) ∷
+      ("ADC (register)" := alu "adc" "adcs" (R w 12 ∷ R w 16 ∷ shifted w ∷ [])) ∷
+      ("SBC (register)" := alu "sbc" "sbcs" (R w 12 ∷ R w 16 ∷ shifted w ∷ [])) ∷
+      ("RSC (register)" := alu "rsc" "rscs" (R w 12 ∷ R w 16 ∷ shifted w ∷ [])) ∷
+      ("TST (register)" := test "tst" (R w 16 ∷ shifted w ∷ [])) ∷
+      ("TEQ (register)" := test "teq" (R w 16 ∷ shifted w ∷ [])) ∷
+      ("CMP (register)" := test "cmp" (R w 16 ∷ shifted w ∷ [])) ∷
+      ("CMN (register)" := test "cmn" (R w 16 ∷ shifted w ∷ [])) ∷
+      ("ORR (register)" := alu "orr" "orrs" (R w 12 ∷ R w 16 ∷ shifted w ∷ [])) ∷
       -- 01: a branch to what register 14 holds is a return
-      ("MOV (register, ARM)" := reading (setflags w N.MOV N.MOVS) (pick (eqb (field w 12 4) 15) (branchesTo (field w 0 4)) Next) (R w 12 ∷ R w 0 ∷ [])) ∷
-      ("LSL (immediate)" := alu N.LSL N.LSLS (R w 12 ∷ R w 0 ∷ shiftCount w ∷ [])) ∷
-      ("LSR (immediate)" := alu N.LSR N.LSRS (R w 12 ∷ R w 0 ∷ shiftCount w ∷ [])) ∷
-      ("ASR (immediate)" := alu N.ASR N.ASRS (R w 12 ∷ R w 0 ∷ shiftCount w ∷ [])) ∷
-      ("RRX" := alu N.RRX N.RRXS (R w 12 ∷ R w 0 ∷ [])) ∷
-      ("ROR (immediate)" := alu N.ROR N.RORS (R w 12 ∷ R w 0 ∷ shiftCount w ∷ [])) ∷
-      ("BIC (register)" := alu N.BIC N.BICS (R w 12 ∷ R w 16 ∷ shifted w ∷ [])) ∷
-      ("MVN (register)" := alu N.MVN N.MVNS (R w 12 ∷ shifted w ∷ [])) ∷
+      ("MOV (register, ARM)" := readingAs (setflags w (name "mov") (name "movs")) (pick (eqb (field w 12 4) 15) (branchesTo (field w 0 4)) Next)
+      (R w 12 ∷ R w 0 ∷ [])) ∷
+      ("LSL (immediate)" := alu "lsl" "lsls" (R w 12 ∷ R w 0 ∷ shiftCount w ∷ [])) ∷
+      ("LSR (immediate)" := alu "lsr" "lsrs" (R w 12 ∷ R w 0 ∷ shiftCount w ∷ [])) ∷
+      ("ASR (immediate)" := alu "asr" "asrs" (R w 12 ∷ R w 0 ∷ shiftCount w ∷ [])) ∷
+      ("RRX" := alu "rrx" "rrxs" (R w 12 ∷ R w 0 ∷ [])) ∷
+      ("ROR (immediate)" := alu "ror" "rors" (R w 12 ∷ R w 0 ∷ shiftCount w ∷ [])) ∷
+      ("BIC (register)" := alu "bic" "bics" (R w 12 ∷ R w 16 ∷ shifted w ∷ [])) ∷
+      ("MVN (register)" := alu "mvn" "mvns" (R w 12 ∷ shifted w ∷ [])) ∷
       -- A5.2.2
-      ("AND (register-shifted register)" := byRegister N.AND N.ANDS (R w 12 ∷ R w 16 ∷ registerShifted w)) ∷
-      ("EOR (register-shifted register)" := byRegister N.EOR N.EORS (R w 12 ∷ R w 16 ∷ registerShifted w)) ∷
-      ("SUB (register-shifted register)" := byRegister N.SUB N.SUBS (R w 12 ∷ R w 16 ∷ registerShifted w)) ∷
-      ("RSB (register-shifted register)" := byRegister N.RSB N.RSBS (R w 12 ∷ R w 16 ∷ registerShifted w)) ∷
-      ("ADD (register-shifted register)" := byRegister N.ADD N.ADDS (R w 12 ∷ R w 16 ∷ registerShifted w)) ∷
-      ("ADC (register-shifted register)" := byRegister N.ADC N.ADCS (R w 12 ∷ R w 16 ∷ registerShifted w)) ∷
-      ("SBC (register-shifted register)" := byRegister N.SBC N.SBCS (R w 12 ∷ R w 16 ∷ registerShifted w)) ∷
-      ("RSC (register-shifted register)" := byRegister N.RSC N.RSCS (R w 12 ∷ R w 16 ∷ registerShifted w)) ∷
-      ("TST (register-shifted register)" := test N.TST (R w 16 ∷ registerShifted w)) ∷
-      ("TEQ (register-shifted register)" := test N.TEQ (R w 16 ∷ registerShifted w)) ∷
-      ("CMP (register-shifted register)" := test N.CMP (R w 16 ∷ registerShifted w)) ∷
-      ("CMN (register-shifted register)" := test N.CMN (R w 16 ∷ registerShifted w)) ∷
-      ("ORR (register-shifted register)" := byRegister N.ORR N.ORRS (R w 12 ∷ R w 16 ∷ registerShifted w)) ∷
-      ("LSL (register)" := byRegister N.LSL N.LSLS (R w 12 ∷ R w 0 ∷ R w 8 ∷ [])) ∷
-      ("LSR (register)" := byRegister N.LSR N.LSRS (R w 12 ∷ R w 0 ∷ R w 8 ∷ [])) ∷
-      ("ASR (register)" := byRegister N.ASR N.ASRS (R w 12 ∷ R w 0 ∷ R w 8 ∷ [])) ∷
-      ("ROR (register)" := byRegister N.ROR N.RORS (R w 12 ∷ R w 0 ∷ R w 8 ∷ [])) ∷
-      ("BIC (register-shifted register)" := byRegister N.BIC N.BICS (R w 12 ∷ R w 16 ∷ registerShifted w)) ∷
-      ("MVN (register-shifted register)" := byRegister N.MVN N.MVNS (R w 12 ∷ registerShifted w)) ∷
+      ("AND (register-shifted register)" := byRegister "and" "ands" (R w 12 ∷ R w 16 ∷ registerShifted w)) ∷
+      ("EOR (register-shifted register)" := byRegister "eor" "eors" (R w 12 ∷ R w 16 ∷ registerShifted w)) ∷
+      ("SUB (register-shifted register)" := byRegister "sub" "subs" (R w 12 ∷ R w 16 ∷ registerShifted w)) ∷
+      ("RSB (register-shifted register)" := byRegister "rsb" "rsbs" (R w 12 ∷ R w 16 ∷ registerShifted w)) ∷
+      ("ADD (register-shifted register)" := byRegister "add" "adds" (R w 12 ∷ R w 16 ∷ registerShifted w)) ∷
+      ("ADC (register-shifted register)" := byRegister "adc" "adcs" (R w 12 ∷ R w 16 ∷ registerShifted w)) ∷
+      ("SBC (register-shifted register)" := byRegister "sbc" "sbcs" (R w 12 ∷ R w 16 ∷ registerShifted w)) ∷
+      ("RSC (register-shifted register)" := byRegister "rsc" "rscs" (R w 12 ∷ R w 16 ∷ registerShifted w)) ∷
+      ("TST (register-shifted register)" := test "tst" (R w 16 ∷ registerShifted w)) ∷
+      ("TEQ (register-shifted register)" := test "teq" (R w 16 ∷ registerShifted w)) ∷
+      ("CMP (register-shifted register)" := test "cmp" (R w 16 ∷ registerShifted w)) ∷
+      ("CMN (register-shifted register)" := test "cmn" (R w 16 ∷ registerShifted w)) ∷
+      ("ORR (register-shifted register)" := byRegister "orr" "orrs" (R w 12 ∷ R w 16 ∷ registerShifted w)) ∷
+      ("LSL (register)" := byRegister "lsl" "lsls" (R w 12 ∷ R w 0 ∷ R w 8 ∷ [])) ∷
+      ("LSR (register)" := byRegister "lsr" "lsrs" (R w 12 ∷ R w 0 ∷ R w 8 ∷ [])) ∷
+      ("ASR (register)" := byRegister "asr" "asrs" (R w 12 ∷ R w 0 ∷ R w 8 ∷ [])) ∷
+      ("ROR (register)" := byRegister "ror" "rors" (R w 12 ∷ R w 0 ∷ R w 8 ∷ [])) ∷
+      ("BIC (register-shifted register)" := byRegister "bic" "bics" (R w 12 ∷ R w 16 ∷ registerShifted w)) ∷
+      ("MVN (register-shifted register)" := byRegister "mvn" "mvns" (R w 12 ∷ registerShifted w)) ∷
       -- A5.2.3
-      ("AND (immediate)" := alu N.AND N.ANDS (R w 12 ∷ R w 16 ∷ constant w false)) ∷
-      ("EOR (immediate)" := alu N.EOR N.EORS (R w 12 ∷ R w 16 ∷ constant w false)) ∷
-      ("SUB (immediate, ARM)" := alu N.SUB N.SUBS (R w 12 ∷ R w 16 ∷ constant w false)) ∷
-      ("RSB (immediate)" := alu N.RSB N.RSBS (R w 12 ∷ R w 16 ∷ constant w false)) ∷
-      ("ADD (immediate, ARM)" := alu N.ADD N.ADDS (R w 12 ∷ R w 16 ∷ constant w false)) ∷
-      ("ADC (immediate)" := alu N.ADC N.ADCS (R w 12 ∷ R w 16 ∷ constant w false)) ∷
-      ("SBC (immediate)" := alu N.SBC N.SBCS (R w 12 ∷ R w 16 ∷ constant w false)) ∷
-      ("RSC (immediate)" := alu N.RSC N.RSCS (R w 12 ∷ R w 16 ∷ constant w false)) ∷
-      ("TST (immediate)" := test N.TST (R w 16 ∷ constant w false)) ∷
-      ("TEQ (immediate)" := test N.TEQ (R w 16 ∷ constant w false)) ∷
-      ("CMP (immediate)" := test N.CMP (R w 16 ∷ constant w false)) ∷
-      ("CMN (immediate)" := test N.CMN (R w 16 ∷ constant w false)) ∷
-      ("ORR (immediate)" := alu N.ORR N.ORRS (R w 12 ∷ R w 16 ∷ constant w false)) ∷
+      ("AND (immediate)" := alu "and" "ands" (R w 12 ∷ R w 16 ∷ constant w false)) ∷
+      ("EOR (immediate)" := alu "eor" "eors" (R w 12 ∷ R w 16 ∷ constant w false)) ∷
+      ("SUB (immediate, ARM)" := alu "sub" "subs" (R w 12 ∷ R w 16 ∷ constant w false)) ∷
+      ("RSB (immediate)" := alu "rsb" "rsbs" (R w 12 ∷ R w 16 ∷ constant w false)) ∷
+      ("ADD (immediate, ARM)" := alu "add" "adds" (R w 12 ∷ R w 16 ∷ constant w false)) ∷
+      ("ADC (immediate)" := alu "adc" "adcs" (R w 12 ∷ R w 16 ∷ constant w false)) ∷
+      ("SBC (immediate)" := alu "sbc" "sbcs" (R w 12 ∷ R w 16 ∷ constant w false)) ∷
+      ("RSC (immediate)" := alu "rsc" "rscs" (R w 12 ∷ R w 16 ∷ constant w false)) ∷
+      ("TST (immediate)" := test "tst" (R w 16 ∷ constant w false)) ∷
+      ("TEQ (immediate)" := test "teq" (R w 16 ∷ constant w false)) ∷
+      ("CMP (immediate)" := test "cmp" (R w 16 ∷ constant w false)) ∷
+      ("CMN (immediate)" := test "cmn" (R w 16 ∷ constant w false)) ∷
+      ("ORR (immediate)" := alu "orr" "orrs" (R w 12 ∷ R w 16 ∷ constant w false)) ∷
       -- 01: "unsigned .. for mov to 15"
-      ("MOV (immediate)" := alu N.MOV N.MOVS (R w 12 ∷ constant w (eqb (field w 12 4) 15))) ∷
-      ("BIC (immediate)" := alu N.BIC N.BICS (R w 12 ∷ R w 16 ∷ constant w false)) ∷
-      ("MVN (immediate)" := alu N.MVN N.MVNS (R w 12 ∷ constant w false)) ∷
+      ("MOV (immediate)" := alu "mov" "movs" (R w 12 ∷ constant w (eqb (field w 12 4) 15))) ∷
+      ("BIC (immediate)" := alu "bic" "bics" (R w 12 ∷ R w 16 ∷ constant w false)) ∷
+      ("MVN (immediate)" := alu "mvn" "mvns" (R w 12 ∷ constant w false)) ∷
       -- A5.2: "imm32 = ZeroExtend(imm4:imm12, 32)"
-      ("MOV (immediate), 16-bit" := reading N.MOVW Next (R w 12 ∷ Number (field w 16 4 * 2 ^ 12 + field w 0 12) ∷ [])) ∷
-      ("MOVT" := reading N.MOVT Next (R w 12 ∷ Number (field w 16 4 * 2 ^ 12 + field w 0 12) ∷ [])) ∷
+      ("MOV (immediate), 16-bit" := reading "movw" Next (R w 12 ∷ Number (field w 16 4 * 2 ^ 12 + field w 0 12) ∷ [])) ∷
+      ("MOVT" := reading "movt" Next (R w 12 ∷ Number (field w 16 4 * 2 ^ 12 + field w 0 12) ∷ [])) ∷
       -- A5.2.5: d = 19:16, n = 3:0, m = 11:8, a = 15:12; dHi = 19:16, dLo = 15:12
-      ("MUL" := byRegister N.MUL N.MULS (R w 16 ∷ R w 0 ∷ R w 8 ∷ [])) ∷
-      ("MLA" := byRegister N.MLA N.MLAS (R w 16 ∷ R w 0 ∷ R w 8 ∷ R w 12 ∷ [])) ∷
-      ("UMAAL" := reading N.UMAAL Next (R w 12 ∷ R w 16 ∷ R w 0 ∷ R w 8 ∷ [])) ∷
-      ("MLS" := reading N.MLS Next (R w 16 ∷ R w 0 ∷ R w 8 ∷ R w 12 ∷ [])) ∷
-      ("UMULL" := byRegister N.UMULL N.UMULLS (R w 12 ∷ R w 16 ∷ R w 0 ∷ R w 8 ∷ [])) ∷
-      ("UMLAL" := byRegister N.UMLAL N.UMLALS (R w 12 ∷ R w 16 ∷ R w 0 ∷ R w 8 ∷ [])) ∷
-      ("SMULL" := byRegister N.SMULL N.SMULLS (R w 12 ∷ R w 16 ∷ R w 0 ∷ R w 8 ∷ [])) ∷
-      ("SMLAL" := byRegister N.SMLAL N.SMLALS (R w 12 ∷ R w 16 ∷ R w 0 ∷ R w 8 ∷ [])) ∷
+      ("MUL" := byRegister "mul" "muls" (R w 16 ∷ R w 0 ∷ R w 8 ∷ [])) ∷
+      ("MLA" := byRegister "mla" "mlas" (R w 16 ∷ R w 0 ∷ R w 8 ∷ R w 12 ∷ [])) ∷
+      ("UMAAL" := reading "umaal" Next (R w 12 ∷ R w 16 ∷ R w 0 ∷ R w 8 ∷ [])) ∷
+      ("MLS" := reading "mls" Next (R w 16 ∷ R w 0 ∷ R w 8 ∷ R w 12 ∷ [])) ∷
+      ("UMULL" := byRegister "umull" "umulls" (R w 12 ∷ R w 16 ∷ R w 0 ∷ R w 8 ∷ [])) ∷
+      ("UMLAL" := byRegister "umlal" "umlals" (R w 12 ∷ R w 16 ∷ R w 0 ∷ R w 8 ∷ [])) ∷
+      ("SMULL" := byRegister "smull" "smulls" (R w 12 ∷ R w 16 ∷ R w 0 ∷ R w 8 ∷ [])) ∷
+      ("SMLAL" := byRegister "smlal" "smlals" (R w 12 ∷ R w 16 ∷ R w 0 ∷ R w 8 ∷ [])) ∷
       -- A5.2.6: "QADD<c> <Rd>, <Rm>, <Rn>"
-      ("QADD" := reading N.QADD Next (R w 12 ∷ R w 0 ∷ R w 16 ∷ [])) ∷
-      ("QSUB" := reading N.QSUB Next (R w 12 ∷ R w 0 ∷ R w 16 ∷ [])) ∷
-      ("QDADD" := reading N.QDADD Next (R w 12 ∷ R w 0 ∷ R w 16 ∷ [])) ∷
-      ("QDSUB" := reading N.QDSUB Next (R w 12 ∷ R w 0 ∷ R w 16 ∷ [])) ∷
+      ("QADD" := reading "qadd" Next (R w 12 ∷ R w 0 ∷ R w 16 ∷ [])) ∷
+      ("QSUB" := reading "qsub" Next (R w 12 ∷ R w 0 ∷ R w 16 ∷ [])) ∷
+      ("QDADD" := reading "qdadd" Next (R w 12 ∷ R w 0 ∷ R w 16 ∷ [])) ∷
+      ("QDSUB" := reading "qdsub" Next (R w 12 ∷ R w 0 ∷ R w 16 ∷ [])) ∷
       -- A5.2.7: d, n, m, a, dHi and dLo as in A5.2.5
-      ("SMLABB, SMLABT, SMLATB, SMLATT" := reading (halves w N.SMLABB N.SMLABT N.SMLATB N.SMLATT) Next (R w 16 ∷ R w 0 ∷ R w 8 ∷ R w 12 ∷ [])) ∷
-      ("SMLAWB, SMLAWT" := reading (half w N.SMLAWB N.SMLAWT) Next (R w 16 ∷ R w 0 ∷ R w 8 ∷ R w 12 ∷ [])) ∷
-      ("SMULWB, SMULWT" := reading (half w N.SMULWB N.SMULWT) Next (R w 16 ∷ R w 0 ∷ R w 8 ∷ [])) ∷
-      ("SMLALBB, SMLALBT, SMLALTB, SMLALTT" := reading (halves w N.SMLALBB N.SMLALBT N.SMLALTB N.SMLALTT) Next (R w 12 ∷ R w 16 ∷ R w 0 ∷ R w 8 ∷ [])) ∷
-      ("SMULBB, SMULBT, SMULTB, SMULTT" := reading (halves w N.SMULBB N.SMULBT N.SMULTB N.SMULTT) Next (R w 16 ∷ R w 0 ∷ R w 8 ∷ [])) ∷
+      ("SMLABB, SMLABT, SMLATB, SMLATT" := readingAs (halves w (name "smlabb") (name "smlabt") (name "smlatb") (name "smlatt")) Next
+      (R w 16 ∷ R w 0 ∷ R w 8 ∷ R w 12 ∷ [])) ∷
+      ("SMLAWB, SMLAWT" := readingAs (half w (name "smlawb") (name "smlawt")) Next (R w 16 ∷ R w 0 ∷ R w 8 ∷ R w 12 ∷ [])) ∷
+      ("SMULWB, SMULWT" := readingAs (half w (name "smulwb") (name "smulwt")) Next (R w 16 ∷ R w 0 ∷ R w 8 ∷ [])) ∷
+      ("SMLALBB, SMLALBT, SMLALTB, SMLALTT" := readingAs (halves w (name "smlalbb") (name "smlalbt") (name "smlaltb") (name "smlaltt")) Next
+      (R w 12 ∷ R w 16 ∷ R w 0 ∷ R w 8 ∷ [])) ∷
+      ("SMULBB, SMULBT, SMULTB, SMULTT" := readingAs (halves w (name "smulbb") (name "smulbt") (name "smultb") (name "smultt")) Next
+      (R w 16 ∷ R w 0 ∷ R w 8 ∷ [])) ∷
       -- A5.2.8
-      ("STRH (register)" := extraIndex "STRH (register)" N.STRH 2 one) ∷
-      ("LDRH (register)" := extraIndex "LDRH (register)" N.LDRH 2 one) ∷
-      ("STRH (immediate, ARM)" := extra N.STRH 2 one (addressing w)) ∷
-      ("LDRH (immediate, ARM)" := extra N.LDRH 2 one (addressing w)) ∷
-      ("LDRH (literal)" := extra N.LDRH 2 one Offset) ∷
-      ("LDRD (register)" := extraIndex "LDRD (register)" N.LDRD 8 pair) ∷
-      ("LDRSB (register)" := extraIndex "LDRSB (register)" N.LDRSB 1 one) ∷
-      ("LDRD (immediate)" := extra N.LDRD 8 pair (addressing w)) ∷
-      ("LDRD (literal)" := extra N.LDRD 8 pair Offset) ∷
-      ("LDRSB (immediate)" := extra N.LDRSB 1 one (addressing w)) ∷
-      ("LDRSB (literal)" := extra N.LDRSB 1 one Offset) ∷
-      ("STRD (register)" := extraIndex "STRD (register)" N.STRD 8 pair) ∷
-      ("LDRSH (register)" := extraIndex "LDRSH (register)" N.LDRSH 2 one) ∷
-      ("STRD (immediate)" := extra N.STRD 8 pair (addressing w)) ∷
-      ("LDRSH (immediate)" := extra N.LDRSH 2 one (addressing w)) ∷
-      ("LDRSH (literal)" := extra N.LDRSH 2 one Offset) ∷
+      ("STRH (register)" := extraIndex "STRH (register)" "strh" 2 one) ∷
+      ("LDRH (register)" := extraIndex "LDRH (register)" "ldrh" 2 one) ∷
+      ("STRH (immediate, ARM)" := extra "strh" 2 one (addressing w)) ∷
+      ("LDRH (immediate, ARM)" := extra "ldrh" 2 one (addressing w)) ∷
+      ("LDRH (literal)" := extra "ldrh" 2 one Offset) ∷
+      ("LDRD (register)" := extraIndex "LDRD (register)" "ldrd" 8 pair) ∷
+      ("LDRSB (register)" := extraIndex "LDRSB (register)" "ldrsb" 1 one) ∷
+      ("LDRD (immediate)" := extra "ldrd" 8 pair (addressing w)) ∷
+      ("LDRD (literal)" := extra "ldrd" 8 pair Offset) ∷
+      ("LDRSB (immediate)" := extra "ldrsb" 1 one (addressing w)) ∷
+      ("LDRSB (literal)" := extra "ldrsb" 1 one Offset) ∷
+      ("STRD (register)" := extraIndex "STRD (register)" "strd" 8 pair) ∷
+      ("LDRSH (register)" := extraIndex "LDRSH (register)" "ldrsh" 2 one) ∷
+      ("STRD (immediate)" := extra "strd" 8 pair (addressing w)) ∷
+      ("LDRSH (immediate)" := extra "ldrsh" 2 one (addressing w)) ∷
+      ("LDRSH (literal)" := extra "ldrsh" 2 one Offset) ∷
       -- A5.2.10: "STREX<c> <Rd>, <Rt>, [<Rn>]", t = 3:0; "LDREX<c> <Rt>, [<Rn>]", t = 15:12
-      ("STREX" := exclusive N.STREX 4 (R w 12 ∷ R w 0 ∷ [])) ∷
-      ("LDREX" := exclusive N.LDREX 4 (R w 12 ∷ [])) ∷
-      ("STREXB" := exclusive N.STREXB 1 (R w 12 ∷ R w 0 ∷ [])) ∷
-      ("LDREXB" := exclusive N.LDREXB 1 (R w 12 ∷ [])) ∷
-      ("STREXH" := exclusive N.STREXH 2 (R w 12 ∷ R w 0 ∷ [])) ∷
-      ("LDREXH" := exclusive N.LDREXH 2 (R w 12 ∷ [])) ∷
+      ("STREX" := exclusive "strex" 4 (R w 12 ∷ R w 0 ∷ [])) ∷
+      ("LDREX" := exclusive "ldrex" 4 (R w 12 ∷ [])) ∷
+      ("STREXB" := exclusive "strexb" 1 (R w 12 ∷ R w 0 ∷ [])) ∷
+      ("LDREXB" := exclusive "ldrexb" 1 (R w 12 ∷ [])) ∷
+      ("STREXH" := exclusive "strexh" 2 (R w 12 ∷ R w 0 ∷ [])) ∷
+      ("LDREXH" := exclusive "ldrexh" 2 (R w 12 ∷ [])) ∷
       -- A5.2.11; 01: unsigned for msr
-      ("NOP" := reading N.NOP Next []) ∷
-      ("YIELD" := reading N.YIELD Next []) ∷
-      ("WFE" := reading N.WFE Next []) ∷
-      ("WFI" := reading N.WFI Next []) ∷
-      ("SEV" := reading N.SEV Next []) ∷
-      ("MSR (immediate)" := reading N.MSR Next (mask ∷ constant w true)) ∷
+      ("NOP" := reading "nop" Next []) ∷
+      ("YIELD" := reading "yield" Next []) ∷
+      ("WFE" := reading "wfe" Next []) ∷
+      ("WFI" := reading "wfi" Next []) ∷
+      ("SEV" := reading "sev" Next []) ∷
+      ("MSR (immediate)" := reading "msr" Next (mask ∷ constant w true)) ∷
       -- A5.2.12
-      ("MRS" := reading N.MRS Next (R w 12 ∷ pick (isSet w 22) (StatusSource Spsr) (StatusSource Apsr) ∷ [])) ∷
-      ("MSR (register)" := reading N.MSR Next (mask ∷ R w 0 ∷ [])) ∷
-      ("BX" := reading N.BX (branchesTo (field w 0 4)) (R w 0 ∷ [])) ∷
-      ("CLZ" := reading N.CLZ Next (R w 12 ∷ R w 0 ∷ [])) ∷
-      ("BXJ" := reading N.BXJ IndirectBranch (R w 0 ∷ [])) ∷
-      ("BLX (register)" := reading N.BLX IndirectCall (R w 0 ∷ [])) ∷
+      ("MRS" := reading "mrs" Next (R w 12 ∷ pick (isSet w 22) (StatusSource Spsr) (StatusSource Apsr) ∷ [])) ∷
+      ("MSR (register)" := reading "msr" Next (mask ∷ R w 0 ∷ [])) ∷
+      ("BX" := reading "bx" (branchesTo (field w 0 4)) (R w 0 ∷ [])) ∷
+      ("CLZ" := reading "clz" Next (R w 12 ∷ R w 0 ∷ [])) ∷
+      ("BXJ" := reading "bxj" IndirectBranch (R w 0 ∷ [])) ∷
+      ("BLX (register)" := reading "blx" IndirectCall (R w 0 ∷ [])) ∷
       -- "BKPT instruction must be unconditional"
-      ("BKPT" := always N.BKPT Trap (imm16 ∷ [])) ∷
+      ("BKPT" := always "bkpt" Trap (imm16 ∷ [])) ∷
       -- A5.3
-      ("STRT" := unprivileged "STRT" N.STRT) ∷
-      ("LDRT" := unprivileged "LDRT" N.LDRT) ∷
-      ("STRBT" := unprivileged "STRBT" N.STRBT) ∷
-      ("LDRBT" := unprivileged "LDRBT" N.LDRBT) ∷
-      ("STR (immediate, ARM)" := immediate N.STR Next) ∷
-      ("STR (register)" := withIndex "STR (register)" N.STR Next) ∷
-      ("LDR (immediate, ARM)" := immediate N.LDR (writesPC w)) ∷
-      ("LDR (literal)" := literal N.LDR (writesPC w)) ∷
-      ("LDR (register, ARM)" := withIndex "LDR (register, ARM)" N.LDR (writesPC w)) ∷
-      ("STRB (immediate, ARM)" := immediate N.STRB Next) ∷
-      ("STRB (register)" := withIndex "STRB (register)" N.STRB Next) ∷
-      ("LDRB (immediate, ARM)" := immediate N.LDRB Next) ∷
-      ("LDRB (literal)" := literal N.LDRB Next) ∷
-      ("LDRB (register)" := withIndex "LDRB (register)" N.LDRB Next) ∷
+      ("STRT" := unprivileged "STRT" "strt") ∷
+      ("LDRT" := unprivileged "LDRT" "ldrt") ∷
+      ("STRBT" := unprivileged "STRBT" "strbt") ∷
+      ("LDRBT" := unprivileged "LDRBT" "ldrbt") ∷
+      ("STR (immediate, ARM)" := immediate "str" Next) ∷
+      ("STR (register)" := withIndex "STR (register)" "str" Next) ∷
+      ("LDR (immediate, ARM)" := immediate "ldr" (writesPC w)) ∷
+      ("LDR (literal)" := literal "ldr" (writesPC w)) ∷
+      ("LDR (register, ARM)" := withIndex "LDR (register, ARM)" "ldr" (writesPC w)) ∷
+      ("STRB (immediate, ARM)" := immediate "strb" Next) ∷
+      ("STRB (register)" := withIndex "STRB (register)" "strb" Next) ∷
+      ("LDRB (immediate, ARM)" := immediate "ldrb" Next) ∷
+      ("LDRB (literal)" := literal "ldrb" Next) ∷
+      ("LDRB (register)" := withIndex "LDRB (register)" "ldrb" Next) ∷
       -- A5.4; a UDF is encoded with the condition always
-      ("SSAT" := reading N.SSAT Next (R w 12 ∷ Count (pos (field w 16 5 + 1)) ∷ R w 0 ∷ saturateShift w ∷ [])) ∷
-      ("USAT" := reading N.USAT Next (R w 12 ∷ Count (pos (field w 16 5)) ∷ R w 0 ∷ saturateShift w ∷ [])) ∷
-      ("SXTAB16" := reading N.SXTAB16 Next (R w 12 ∷ R w 16 ∷ R w 0 ∷ rotation w ∷ [])) ∷
-      ("SXTB16" := reading N.SXTB16 Next (R w 12 ∷ R w 0 ∷ rotation w ∷ [])) ∷
-      ("SXTAB" := reading N.SXTAB Next (R w 12 ∷ R w 16 ∷ R w 0 ∷ rotation w ∷ [])) ∷
-      ("SXTB" := reading N.SXTB Next (R w 12 ∷ R w 0 ∷ rotation w ∷ [])) ∷
-      ("REV" := reading N.REV Next (R w 12 ∷ R w 0 ∷ [])) ∷
-      ("SXTAH" := reading N.SXTAH Next (R w 12 ∷ R w 16 ∷ R w 0 ∷ rotation w ∷ [])) ∷
-      ("SXTH" := reading N.SXTH Next (R w 12 ∷ R w 0 ∷ rotation w ∷ [])) ∷
-      ("REV16" := reading N.REV16 Next (R w 12 ∷ R w 0 ∷ [])) ∷
-      ("UXTAB16" := reading N.UXTAB16 Next (R w 12 ∷ R w 16 ∷ R w 0 ∷ rotation w ∷ [])) ∷
-      ("UXTB16" := reading N.UXTB16 Next (R w 12 ∷ R w 0 ∷ rotation w ∷ [])) ∷
-      ("UXTAB" := reading N.UXTAB Next (R w 12 ∷ R w 16 ∷ R w 0 ∷ rotation w ∷ [])) ∷
-      ("UXTB" := reading N.UXTB Next (R w 12 ∷ R w 0 ∷ rotation w ∷ [])) ∷
-      ("RBIT" := reading N.RBIT Next (R w 12 ∷ R w 0 ∷ [])) ∷
-      ("UXTAH" := reading N.UXTAH Next (R w 12 ∷ R w 16 ∷ R w 0 ∷ rotation w ∷ [])) ∷
-      ("UXTH" := reading N.UXTH Next (R w 12 ∷ R w 0 ∷ rotation w ∷ [])) ∷
-      ("REVSH" := reading N.REVSH Next (R w 12 ∷ R w 0 ∷ [])) ∷
-      ("SDIV" := reading N.SDIV Next (R w 16 ∷ R w 0 ∷ R w 8 ∷ [])) ∷
-      ("UDIV" := reading N.UDIV Next (R w 16 ∷ R w 0 ∷ R w 8 ∷ [])) ∷
-      ("SBFX" := reading N.SBFX Next (R w 12 ∷ R w 0 ∷ Number lsb ∷ Number (msb + 1) ∷ [])) ∷
-      ("BFC" := reading N.BFC Next (R w 12 ∷ Count (pos lsb) ∷ Count (pos (msb - lsb + 1)) ∷ [])) ∷
-      ("BFI" := reading N.BFI Next (R w 12 ∷ R w 0 ∷ Count (pos lsb) ∷ Count (pos (msb - lsb + 1)) ∷ [])) ∷
-      ("UBFX" := reading N.UBFX Next (R w 12 ∷ R w 0 ∷ Number lsb ∷ Number (msb + 1) ∷ [])) ∷
-      ("UDF" := always N.UDF Trap (imm16 ∷ [])) ∷
+      ("SSAT" := reading "ssat" Next (R w 12 ∷ Count (pos (field w 16 5 + 1)) ∷ R w 0 ∷ saturateShift w ∷ [])) ∷
+      ("USAT" := reading "usat" Next (R w 12 ∷ Count (pos (field w 16 5)) ∷ R w 0 ∷ saturateShift w ∷ [])) ∷
+      ("SXTAB16" := reading "sxtab16" Next (R w 12 ∷ R w 16 ∷ R w 0 ∷ rotation w ∷ [])) ∷
+      ("SXTB16" := reading "sxtb16" Next (R w 12 ∷ R w 0 ∷ rotation w ∷ [])) ∷
+      ("SXTAB" := reading "sxtab" Next (R w 12 ∷ R w 16 ∷ R w 0 ∷ rotation w ∷ [])) ∷
+      ("SXTB" := reading "sxtb" Next (R w 12 ∷ R w 0 ∷ rotation w ∷ [])) ∷
+      ("REV" := reading "rev" Next (R w 12 ∷ R w 0 ∷ [])) ∷
+      ("SXTAH" := reading "sxtah" Next (R w 12 ∷ R w 16 ∷ R w 0 ∷ rotation w ∷ [])) ∷
+      ("SXTH" := reading "sxth" Next (R w 12 ∷ R w 0 ∷ rotation w ∷ [])) ∷
+      ("REV16" := reading "rev16" Next (R w 12 ∷ R w 0 ∷ [])) ∷
+      ("UXTAB16" := reading "uxtab16" Next (R w 12 ∷ R w 16 ∷ R w 0 ∷ rotation w ∷ [])) ∷
+      ("UXTB16" := reading "uxtb16" Next (R w 12 ∷ R w 0 ∷ rotation w ∷ [])) ∷
+      ("UXTAB" := reading "uxtab" Next (R w 12 ∷ R w 16 ∷ R w 0 ∷ rotation w ∷ [])) ∷
+      ("UXTB" := reading "uxtb" Next (R w 12 ∷ R w 0 ∷ rotation w ∷ [])) ∷
+      ("RBIT" := reading "rbit" Next (R w 12 ∷ R w 0 ∷ [])) ∷
+      ("UXTAH" := reading "uxtah" Next (R w 12 ∷ R w 16 ∷ R w 0 ∷ rotation w ∷ [])) ∷
+      ("UXTH" := reading "uxth" Next (R w 12 ∷ R w 0 ∷ rotation w ∷ [])) ∷
+      ("REVSH" := reading "revsh" Next (R w 12 ∷ R w 0 ∷ [])) ∷
+      ("SDIV" := reading "sdiv" Next (R w 16 ∷ R w 0 ∷ R w 8 ∷ [])) ∷
+      ("UDIV" := reading "udiv" Next (R w 16 ∷ R w 0 ∷ R w 8 ∷ [])) ∷
+      ("SBFX" := reading "sbfx" Next (R w 12 ∷ R w 0 ∷ Number lsb ∷ Number (msb + 1) ∷ [])) ∷
+      ("BFC" := reading "bfc" Next (R w 12 ∷ Count (pos lsb) ∷ Count (pos (msb - lsb + 1)) ∷ [])) ∷
+      ("BFI" := reading "bfi" Next (R w 12 ∷ R w 0 ∷ Count (pos lsb) ∷ Count (pos (msb - lsb + 1)) ∷ [])) ∷
+      ("UBFX" := reading "ubfx" Next (R w 12 ∷ R w 0 ∷ Number lsb ∷ Number (msb + 1) ∷ [])) ∷
+      ("UDF" := always "udf" Trap (imm16 ∷ [])) ∷
       -- A5.5
-      ("STMDA" := storeMultiple N.STMDA) ∷
-      ("LDMDA" := loadMultiple N.LDMDA) ∷
-      ("STM" := storeMultiple N.STM) ∷
-      ("LDM" := loadMultiple N.LDM) ∷
-      ("POP" := reading N.POP loadsPC (registers ∷ [])) ∷
-      ("STMDB" := storeMultiple N.STMDB) ∷
-      ("PUSH" := reading N.PUSH Next (registers ∷ [])) ∷
-      ("LDMDB" := loadMultiple N.LDMDB) ∷
-      ("STMIB" := storeMultiple N.STMIB) ∷
-      ("LDMIB" := loadMultiple N.LDMIB) ∷
+      ("STMDA" := storeMultiple "stmda") ∷
+      ("LDMDA" := loadMultiple "ldmda") ∷
+      ("STM" := storeMultiple "stm") ∷
+      ("LDM" := loadMultiple "ldm") ∷
+      ("POP" := reading "pop" loadsPC (registers ∷ [])) ∷
+      ("STMDB" := storeMultiple "stmdb") ∷
+      ("PUSH" := reading "push" Next (registers ∷ [])) ∷
+      ("LDMDB" := loadMultiple "ldmdb") ∷
+      ("STMIB" := storeMultiple "stmib") ∷
+      ("LDMIB" := loadMultiple "ldmib") ∷
       -- "BranchWritePC(PC + imm32)"; 01 tells a branch under a condition from one without
-      ("B" := reading N.B (pick (eqb (field w 28 4) 14) (Branch (fromPC imm24)) (CondBranch (fromPC imm24))) (Address (fromPC imm24) ∷ [])) ∷
-      ("BL" := reading N.BL (Call (fromPC imm24)) (Address (fromPC imm24) ∷ [])) ∷
+      ("B" := reading "b" (pick (eqb (field w 28 4) 14) (Branch (fromPC imm24)) (CondBranch (fromPC imm24))) (Address (fromPC imm24) ∷ [])) ∷
+      ("BL" := reading "bl" (Call (fromPC imm24)) (Address (fromPC imm24) ∷ [])) ∷
       -- other names of words that are read above
       ("ADR" := names "ADR") ∷
       ("SUBS PC, LR and related instructions" := names "SUBS PC, LR and related instructions") ∷
       ("PUSH, one register" := names "PUSH, one register") ∷
       ("POP, one register" := names "POP, one register") ∷
       -- A5.7
-      ("PLDW (immediate)" := preload N.PLDW) ∷
-      ("PLD (immediate)" := preload N.PLD) ∷
-      ("PLD (literal)" := preload N.PLD) ∷
-      ("CLREX" := reading N.CLREX Next []) ∷
-      ("DSB" := barrier N.DSB) ∷
-      ("DMB" := barrier N.DMB) ∷
-      ("ISB" := barrier N.ISB) ∷
-      ("BLX (immediate)" := reading N.BLX (Call (fromPC imm24H)) (Address (fromPC imm24H) ∷ [])) ∷
+      ("PLDW (immediate)" := preload "pldw") ∷
+      ("PLD (immediate)" := preload "pld") ∷
+      ("PLD (literal)" := preload "pld") ∷
+      ("CLREX" := reading "clrex" Next []) ∷
+      ("DSB" := barrier "dsb") ∷
+      ("DMB" := barrier "dmb") ∷
+      ("ISB" := barrier "isb") ∷
+      ("BLX (immediate)" := reading "blx" (Call (fromPC imm24H)) (Address (fromPC imm24H) ∷ [])) ∷
       []
 
   -- what the manual says of w at an address, once the page is known

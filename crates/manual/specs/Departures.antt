@@ -7,15 +7,16 @@ use Prim.Native.String.{String}
 use lib.Dec.{eqb, ltb}
 use Rattle.word.specs.Choice.{pick, both}
 use Rattle.word.specs.Field.{field}
+use Rattle.word.specs.Refusal.{NO_ROW}
 use Rattle.insn.specs.Answer.{insnOf, accepted, refused}
-use Rattle.insn.specs.Name as N
 use Rattle.insn.specs.declared.AddrMode.{AddrMode}
 use Rattle.insn.specs.declared.AddrMode.the-variants.{Offset, PreIndex, PostIndex}
 use Rattle.insn.specs.declared.Decoded.{Decoded}
 use Rattle.insn.specs.declared.Index.the-variants.{Absent}
 use Rattle.insn.specs.declared.Flow.{Flow}
 use Rattle.insn.specs.declared.Flow.the-variants.{Next, IndirectBranch}
-use Rattle.manual.specs.A8.{isAmong, otherPageOf, Said, reads, beyond, names, unlisted, undefined, unpredictable, Page, saidAmong, saidOf, reading, transfers, immediate, withIndex, unprivileged, extra, one, pair, _:=_}
+use Rattle.manual.specs.A8.{isAmong, otherPageOf, Said, reads, beyond, names, unlisted, undefined, unpredictable, Page, saidAmong, saidOf}
+use Rattle.manual.specs.A8.{reading, transfers, immediate, withIndex, unprivileged, extra, one, pair, _:=_}
 use Rattle.manual.specs.Reads.{isSet, writesPC, addressing, offset, isMinusZero, memory}
 
 pub data Departure : Type 0 where
@@ -159,11 +160,11 @@ standingOf row w = standingAmong row (coverings w)
 -- what a page reads, as an answer
 abbrev pub answered : Said → Decoded
 answered (reads d) = d
-answered (beyond s) = refused 3
-answered (names s) = refused 3
-answered unlisted = refused 3
-answered undefined = refused 3
-answered unpredictable = refused 3
+answered (beyond s) = refused NO_ROW
+answered (names s) = refused NO_ROW
+answered unlisted = refused NO_ROW
+answered undefined = refused NO_ROW
+answered unpredictable = refused NO_ROW
 
 -- an answer with another flow, and with the word's own condition
 abbrev pub branching : Decoded → Decoded
@@ -174,31 +175,31 @@ conditioned w d = accepted (insnOf (d .insn .addr) (d .insn .name) (record { 0 =
 
 module _ (w addr : ℕ) where
   -- P and W give the mode from R[15] too; minus zero is told from zero in no offset mode
-  abbrev displacing : ℕ → Flow → Said
-  displacing name flow = transfers w addr name flow (addressing w) (both (not (isOffset (addressing w))) (isMinusZero w (field w 0 12)))
+  abbrev displacing : String → Flow → Said
+  displacing root flow = transfers w addr root flow (addressing w) (both (not (isOffset (addressing w))) (isMinusZero w (field w 0 12)))
 
-  abbrev preloading : ℕ → Said
-  preloading name = reading w addr name Next (memory (field w 16 4) Absent (offset w (field w 0 12)) Offset 1 false false ∷ [])
+  abbrev preloading : String → Said
+  preloading root = reading w addr root Next (memory (field w 16 4) Absent (offset w (field w 0 12)) Offset 1 false false ∷ [])
 
   -- any load to 15 is a branch
   abbrev pub portLoads : List Page
   portLoads =
-      ("STR (immediate, ARM)" := displacing N.STR Next) ∷
-      ("LDR (immediate, ARM)" := displacing N.LDR (writesPC w)) ∷
-      ("LDR (literal)" := displacing N.LDR (writesPC w)) ∷
-      ("STRB (immediate, ARM)" := displacing N.STRB Next) ∷
-      ("LDRB (immediate, ARM)" := displacing N.LDRB (writesPC w)) ∷
-      ("LDRB (literal)" := displacing N.LDRB (writesPC w)) ∷
-      ("LDRB (register)" := withIndex w addr "LDRB (register)" N.LDRB (writesPC w)) ∷
-      ("LDRT" := pick (isSet w 25) (withIndex w addr "LDRT" N.LDRT (writesPC w)) (immediate w addr N.LDRT (writesPC w))) ∷
-      ("LDRBT" := pick (isSet w 25) (withIndex w addr "LDRBT" N.LDRBT (writesPC w)) (immediate w addr N.LDRBT (writesPC w))) ∷
-      ("LDRH (literal)" := extra w addr N.LDRH 2 (one w addr) (addressing w)) ∷
-      ("LDRD (literal)" := extra w addr N.LDRD 8 (pair w addr) (addressing w)) ∷
-      ("LDRSB (literal)" := extra w addr N.LDRSB 1 (one w addr) (addressing w)) ∷
-      ("LDRSH (literal)" := extra w addr N.LDRSH 2 (one w addr) (addressing w)) ∷
-      ("PLDW (immediate)" := preloading N.PLDW) ∷
-      ("PLD (immediate)" := preloading N.PLD) ∷
-      ("PLD (literal)" := preloading N.PLD) ∷
+      ("STR (immediate, ARM)" := displacing "str" Next) ∷
+      ("LDR (immediate, ARM)" := displacing "ldr" (writesPC w)) ∷
+      ("LDR (literal)" := displacing "ldr" (writesPC w)) ∷
+      ("STRB (immediate, ARM)" := displacing "strb" Next) ∷
+      ("LDRB (immediate, ARM)" := displacing "ldrb" (writesPC w)) ∷
+      ("LDRB (literal)" := displacing "ldrb" (writesPC w)) ∷
+      ("LDRB (register)" := withIndex w addr "LDRB (register)" "ldrb" (writesPC w)) ∷
+      ("LDRT" := pick (isSet w 25) (withIndex w addr "LDRT" "ldrt" (writesPC w)) (immediate w addr "ldrt" (writesPC w))) ∷
+      ("LDRBT" := pick (isSet w 25) (withIndex w addr "LDRBT" "ldrbt" (writesPC w)) (immediate w addr "ldrbt" (writesPC w))) ∷
+      ("LDRH (literal)" := extra w addr "ldrh" 2 (one w addr) (addressing w)) ∷
+      ("LDRD (literal)" := extra w addr "ldrd" 8 (pair w addr) (addressing w)) ∷
+      ("LDRSB (literal)" := extra w addr "ldrsb" 1 (one w addr) (addressing w)) ∷
+      ("LDRSH (literal)" := extra w addr "ldrsh" 2 (one w addr) (addressing w)) ∷
+      ("PLDW (immediate)" := preloading "pldw") ∷
+      ("PLD (immediate)" := preloading "pld") ∷
+      ("PLD (literal)" := preloading "pld") ∷
       []
 
   -- what the decoder answers, of a row of A5's tables and the page that reads it
@@ -208,18 +209,18 @@ module _ (w addr : ℕ) where
   portOf compare-15 row page = branching (answered (saidOf w addr page))
   portOf shifted-15 row page = branching (answered (saidOf w addr page))
   portOf push-pop-one row page = answered (saidOf w addr row)
-  portOf pair-write-back row page = refused 3
-  portOf odd-pair row page = refused 3
-  portOf index row page = refused 3
+  portOf pair-write-back row page = refused NO_ROW
+  portOf odd-pair row page = refused NO_ROW
+  portOf index row page = refused NO_ROW
   portOf load-15 row page = answered (saidAmong page portLoads)
   portOf literal-index row page = answered (saidAmong page portLoads)
   portOf minus-zero row page = answered (saidAmong page portLoads)
-  portOf empty-list row page = refused 3
-  portOf width row page = refused 3
-  portOf reverse-bits row page = refused 3
-  portOf extend-bits row page = refused 3
+  portOf empty-list row page = refused NO_ROW
+  portOf width row page = refused NO_ROW
+  portOf reverse-bits row page = refused NO_ROW
+  portOf extend-bits row page = refused NO_ROW
   portOf hint-bits row page = answered (saidOf w addr "MSR (immediate)")
   portOf trap-condition row page = conditioned w (answered (saidOf w addr page))
-  portOf preload-bits row page = refused 3
-  portOf preload-literal row page = answered (preloading N.PLDW)
-  portOf barrier-bits row page = refused 3
+  portOf preload-bits row page = refused NO_ROW
+  portOf preload-literal row page = answered (preloading "pldw")
+  portOf barrier-bits row page = refused NO_ROW

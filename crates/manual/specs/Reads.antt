@@ -18,7 +18,7 @@ use Rattle.insn.specs.declared.Operand.{Operand}
 use Rattle.insn.specs.declared.Operand.the-variants.{Empty, Register, Shifted, ShiftBy, SaturateShift, Rotate, Count, Memory}
 use Rattle.insn.specs.declared.Shift.{Shift}
 use Rattle.insn.specs.declared.Shift.the-variants.{Lsl, Lsr, Asr, Ror}
-use Rattle.imm.specs.Imm.{leastOf, countOf}
+use Rattle.a32_imm.specs.Imm.{leastOf, countOf}
 
 abbrev pub isSet : ℕ → ℕ → Bool
 isSet w n = eqb (field w n 1) 1

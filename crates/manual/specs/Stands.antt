@@ -7,6 +7,7 @@ use Prim.Native.String.{String}
 use lib.Dec.{eqb}
 use Rattle.word.specs.Choice.{both}
 use Rattle.word.specs.Field.{field}
+use Rattle.word.specs.Refusal.{NO_ROW}
 use Rattle.insn.specs.Answer.{refused}
 use Rattle.insn.specs.declared.Decoded.{Decoded}
 use Rattle.a32.specs.Decode.{decodeOf}
@@ -18,10 +19,10 @@ use Rattle.manual.specs.Departures.{Standing, follows, departs, standing
 abbrev pub Agrees : Said → Decoded → Type 0
 Agrees (reads a) d = d ≡ a
 Agrees (beyond s) d = ⊥
-Agrees (names s) d = d ≡ refused 3
+Agrees (names s) d = d ≡ refused NO_ROW
 Agrees unlisted d = ⊥
-Agrees undefined d = d ≡ refused 3
-Agrees unpredictable d = d ≡ refused 3
+Agrees undefined d = d ≡ refused NO_ROW
+Agrees unpredictable d = d ≡ refused NO_ROW
 
 abbrev pub StandsAs : Standing → String → String → ℕ → ℕ → Decoded → Type 0
 StandsAs follows row page w addr d = Agrees (saidOf w addr page) d

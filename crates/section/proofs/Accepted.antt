@@ -24,8 +24,7 @@ passed true n h = absurd (let z : ⊥ = omega arith in z)
 passed false n h = (refl, h)
 
 pub accepted : (s : List ℕ) → refusalOf s ≡ 0 → Accepted s
-unfolding refusalOf
-accepted s ok =
+accepted s ok = unfold refusalOf in
     let header = passed (ltb (length s) 9) 6 ok in
     let mark = passed (not (markedOf s)) 4 (header .1) in
     let version = passed (not (eqb (versionOf s) 1)) 5 (mark .1) in
@@ -61,12 +60,10 @@ small-refusal s =
     small false n ok h = h
 
 pub opens : (s : List ℕ) → refusalOf s ≡ 0 → openedOf s ≡ record { refusal = 0; version = versionOf s; base = baseOf s; count = countOf s; start = 9 }
-unfolding openedOf
-opens s ok = simp (eq-eqb (refusalOf s) 0 ok)
+opens s ok = unfold openedOf in simp (eq-eqb (refusalOf s) 0 ok)
 
 pub refuses : (s : List ℕ) → (refusalOf s ≡ 0 → ⊥) → openedOf s ≡ record { refusal = refusalOf s; version = 0; base = 0; count = 0; start = 0 }
-unfolding openedOf
-refuses s bad = simp (ne-eqb (refusalOf s) 0 bad)
+refuses s bad = unfold openedOf in simp (ne-eqb (refusalOf s) 0 bad)
 
 -- `open` accepts exactly if `refusalOf` is 0
 pub same-refusal : (s : List ℕ) → openedOf s .refusal ≡ refusalOf s

@@ -12,8 +12,7 @@ listed =
     ∷ 0x4f ∷ 0xf0 ∷ 0x7f ∷ 0xf5 ∷ 0x5f ∷ 0xf0 ∷ 0x7f ∷ 0xf5 ∷ 0xfe ∷ 0xff ∷ 0xff ∷ 0x0a ∷ 0x00 ∷ 0x00 ∷ 0x00 ∷ 0xef ∷ []
 
 opens : openedOf listed ≡ record { refusal = 0; version = 1; base = 0x8000; count = 6; start = 9 }
-unfolding refusalOf openedOf
-opens = refl
+opens = unfold refusalOf openedOf in refl
 
 holds :
     placesOf listed
@@ -24,8 +23,7 @@ holds :
     ∷ Word 0x0afffffe 0x8010
     ∷ Word 0xef000000 0x8014
     ∷ []
-unfolding refusalOf openedOf placesOf
-holds = refl
+holds = unfold refusalOf openedOf placesOf in refl
 
 -- a mark's last byte, a version, a base's lowest byte and its others, and so many bytes of words
 abbrev made : ℕ → ℕ → ℕ → ℕ → ℕ → List ℕ
@@ -44,5 +42,4 @@ refuses :
     ∷ made 0x58 1 0xfc 0xff 4
     ∷ [])
     ≡ 7 ∷ 5 ∷ 6 ∷ 7 ∷ 8 ∷ 9 ∷ 9 ∷ 0 ∷ []
-unfolding refusalOf
-refuses = refl
+refuses = unfold refusalOf in refl

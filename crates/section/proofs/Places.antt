@@ -34,13 +34,11 @@ module _ (at : ℕ → Here) where
 
 module _ (s : List ℕ) where
   pub how-many : length (placesOf s) ≡ openedOf s .count
-  unfolding placesOf
-  how-many = so-many (wordHere s (openedOf s)) (openedOf s .count)
+  how-many = unfold placesOf in so-many (wordHere s (openedOf s)) (openedOf s .count)
 
   module _ {place : ℕ} where
     pub before-end : place < length (placesOf s) → hereOf s place ≡ wordHere s (openedOf s) place
-    unfolding placesOf
-    before-end h = each (wordHere s (openedOf s)) (openedOf s .count) place (omega (arith, how-many))
+    before-end h = unfold placesOf in each (wordHere s (openedOf s)) (openedOf s .count) place (omega (arith, how-many))
 
     pub at-end : length (placesOf s) ≤ place → hereOf s place ≡ End
     at-end h = List·getD-eq-default (placesOf s) End h

@@ -6,6 +6,7 @@ use lib.Dec.{eqb, ltb}
 use lib.ListN.{length, getD}
 use Rattle.word.specs.Bytes.{wordAt}
 use Rattle.word.specs.Choice.{pick, both}
+use Rattle.word.specs.Refusal.{BAD_MARK, BAD_VERSION, BAD_LENGTH, TOO_MANY_WORDS, BAD_BASE}
 use Rattle.section.specs.declared.Opened.{Opened}
 use Rattle.section.specs.declared.Here.{Here}
 use Rattle.section.specs.declared.Here.the-variants.{Word, End}
@@ -28,13 +29,13 @@ countOf s = (length s - 9) / 4
 -- "Section checks in order: 9 bytes, mark, version, multiple of 4, count, base"; 0 if all hold
 unfoldable pub refusalOf : List ℕ → ℕ
 refusalOf s =
-    pick (ltb (length s) 9) 7
-    (pick (not (markedOf s)) 5
-    (pick (not (eqb (versionOf s) 1)) 6
-    (pick (not (eqb ((length s - 9) % 4) 0)) 7
-    (pick (ltb 4096 (countOf s)) 8
-    (pick (not (eqb (baseOf s % 4) 0)) 9
-    (pick (ltb (2 ^ 32) (baseOf s + 4 * countOf s)) 9
+    pick (ltb (length s) 9) BAD_LENGTH
+    (pick (not (markedOf s)) BAD_MARK
+    (pick (not (eqb (versionOf s) 1)) BAD_VERSION
+    (pick (not (eqb ((length s - 9) % 4) 0)) BAD_LENGTH
+    (pick (ltb 4096 (countOf s)) TOO_MANY_WORDS
+    (pick (not (eqb (baseOf s % 4) 0)) BAD_BASE
+    (pick (ltb (2 ^ 32) (baseOf s + 4 * countOf s)) BAD_BASE
     0))))))
 
 -- what a section is opened to; "A refusal returns its number only"

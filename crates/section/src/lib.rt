@@ -1,4 +1,9 @@
 //! RSX: a section of words, its checks and its reader.
+use word::refusal::BAD_BASE;
+use word::refusal::BAD_LENGTH;
+use word::refusal::BAD_MARK;
+use word::refusal::BAD_VERSION;
+use word::refusal::TOO_MANY_WORDS;
 use word::word_at;
 ghost use mathlib.Core.Path.{_≡_};
 ghost use mathlib.Core.Bool.{true};
@@ -15,17 +20,6 @@ const MOST_WORDS: usize = 4096;
 
 /// What lies behind the last address.
 const END: usize = 0x1_0000_0000;
-
-/// The numbers of a section's refusals.
-const BAD_MARK: u8 = 5;
-
-const BAD_VERSION: u8 = 6;
-
-const BAD_LENGTH: u8 = 7;
-
-const TOO_MANY_WORDS: u8 = 8;
-
-const BAD_BASE: u8 = 9;
 
 /// What a section is opened to, once, for all that go through it: a refusal's number alone, or 0 with the version, the base, how many words
 /// there are and where they start.

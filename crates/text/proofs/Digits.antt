@@ -24,12 +24,10 @@ last-digit : (k n : ℕ) → 10 ≤ n → n / 10 < 10 ^ suc k → digitsOf (suc 
 last-digit k n h most = rw (enough k (n / 10) most) (simp (le-ltb n 10 h))
 
 pub decimal-one : (n : ℕ) → n < 10 → decimalOf n ≡ (48 + n) ∷ []
-unfolding decimalOf
-decimal-one n h = simp (lt-ltb n 10 h)
+decimal-one n h = unfold decimalOf in simp (lt-ltb n 10 h)
 
 pub decimal-more : (n : ℕ) → 10 ≤ n → n < 2 ^ 64 → decimalOf n ≡ decimalOf (n / 10) ++ (48 + n % 10) ∷ []
-unfolding decimalOf
-decimal-more n h most = last-digit 18 n h (omega arith)
+decimal-more n h most = unfold decimalOf in last-digit 18 n h (omega arith)
 
 pub hex-size : (k n : ℕ) → length (hexOf k n) ≡ k
 unfolding hexOf
@@ -42,8 +40,7 @@ module _ (digits n left : ℕ) (some : 0 < left) (most : left ≤ digits) where
   rest = n / 2 ^ (4 * (left - 1))
 
   pub hex-more : hexOf (digits - (left - 1)) rest ≡ hexOf (digits - left) (n / 2 ^ (4 * left)) ++ hexDigit (rest % 16) ∷ []
-  unfolding hexOf
-  hex-more =
+  hex-more = unfold hexOf in
       ap (λ (k : ℕ). hexOf k rest) {x = digits - (left - 1)} {y = suc (digits - left)} (omega arith)
       ∙ ap (λ (x : ℕ). hexOf (digits - left) x ++ hexDigit (rest % 16) ∷ [])
       (P.shr-shr n (4 * (left - 1)) 4 ∙ ap (λ (x : ℕ). n / 2 ^ x) {x = 4 * (left - 1) + 4} {y = 4 * left} (omega arith))

@@ -17,17 +17,17 @@ use Rattle.text.specs.declared.Written.{Written}
 abbrev pub Settles : List ℕ → List ℕ → Written → List ℕ → Type 0
 Settles text out r last = (r ≡ answerOf text out) × (last ≡ lastOf text out)
 
-pub fits : {text out last : List ℕ} {next : ℕ} → length text ≤ length out → Put out 0 text next last → Settles text out (record { refusal = 0; len = next }) last
-unfolding answerOf lastOf
-fits h put = (rw (put .ends, zero-add) (simp (le-leb _ _ h)), put .holds ∙ simp (le-leb _ _ h))
+pub fits : {text out last : List ℕ} {next : ℕ} → length text ≤ length out → Put out 0 text next last
+    → Settles text out (record { refusal = 0; len = next }) last
+fits h put = unfold answerOf lastOf in (rw (put .ends, zero-add) (simp (le-leb _ _ h)), put .holds ∙ simp (le-leb _ _ h))
 
 -- a text that fits ends within the buffer
-pub ends-within : {text out last : List ℕ} {next : ℕ} → Put out 0 text next last → length last ≡ length out → length text ≤ length out → next ≤ length last
+pub ends-within : {text out last : List ℕ} {next : ℕ} → Put out 0 text next last → length last ≡ length out → length text ≤ length out
+    → next ≤ length last
 ends-within put kept room = omega (arith, put .ends)
 
 pub no-room : (text : List ℕ) {out : List ℕ} → length out < length text → Settles text out (record { refusal = 10; len = 0 }) out
-unfolding answerOf lastOf
-no-room text h = (simp (lt-leb _ _ h), simp (lt-leb _ _ h))
+no-room text h = unfold answerOf lastOf in (simp (lt-leb _ _ h), simp (lt-leb _ _ h))
 
 -- no more bytes are written than there is room for
 pub within : (text out : List ℕ) → answerOf text out .len ≤ length out

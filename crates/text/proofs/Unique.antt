@@ -17,7 +17,8 @@ use Rattle.text.proofs.put_hex.Reads as put-hex
 pub one-put : {out s last last′ : List ℕ} {at next next′ : ℕ} → Put out at s next last → Put out at s next′ last′ → (next ≡ next′) × (last ≡ last′)
 one-put p q = (p .ends ∙ sym (q .ends), p .holds ∙ sym (q .holds))
 
-pub put-whole-only : (κs : _) (a : _) (r r′ : _) (s s′ : _) → put-whole.Post κs a r s → put-whole.Post κs a r′ s′ → (r ≡ r′) × (now (s .0) ≡ now (s′ .0))
+pub put-whole-only : (κs : _) (a : _) (r r′ : _) (s s′ : _) → put-whole.Post κs a r s → put-whole.Post κs a r′ s′
+    → (r ≡ r′) × (now (s .0) ≡ now (s′ .0))
 put-whole-only κs a r r′ s s′ p q = (p .0 ∙ sym (q .0), p .1 ∙ sym (q .1))
 
 pub put-byte-only : (κs : _) (a : _) (r r′ : _) (s s′ : _) → put-byte.Post κs a r s → put-byte.Post κs a r′ s′ → (r ≡ r′) × (now (s .0) ≡ now (s′ .0))
@@ -26,13 +27,16 @@ put-byte-only κs a r r′ s s′ p q = one-put p q
 pub put-only : (κs : _) (a : _) (r r′ : _) (s s′ : _) → put.Post κs a r s → put.Post κs a r′ s′ → (r ≡ r′) × (now (s .0) ≡ now (s′ .0))
 put-only κs a r r′ s s′ p q = one-put p q
 
-pub put-entry-only : (κs : _) (a : _) (r r′ : _) (s s′ : _) → put-entry.Post κs a r s → put-entry.Post κs a r′ s′ → (r ≡ r′) × (now (s .0) ≡ now (s′ .0))
+pub put-entry-only : (κs : _) (a : _) (r r′ : _) (s s′ : _) → put-entry.Post κs a r s → put-entry.Post κs a r′ s′
+    → (r ≡ r′) × (now (s .0) ≡ now (s′ .0))
 put-entry-only κs a r r′ s s′ p q = one-put p q
 
-pub put-decimal-only : (κs : _) (a : _) (r r′ : _) (s s′ : _) → put-decimal.Post κs a r s → put-decimal.Post κs a r′ s′ → (r ≡ r′) × (now (s .0) ≡ now (s′ .0))
+pub put-decimal-only : (κs : _) (a : _) (r r′ : _) (s s′ : _) → put-decimal.Post κs a r s → put-decimal.Post κs a r′ s′
+    → (r ≡ r′) × (now (s .0) ≡ now (s′ .0))
 put-decimal-only κs a r r′ s s′ p q = one-put p q
 
-pub put-signed-only : (κs : _) (a : _) (r r′ : _) (s s′ : _) → put-signed.Post κs a r s → put-signed.Post κs a r′ s′ → (r ≡ r′) × (now (s .0) ≡ now (s′ .0))
+pub put-signed-only : (κs : _) (a : _) (r r′ : _) (s s′ : _) → put-signed.Post κs a r s → put-signed.Post κs a r′ s′
+    → (r ≡ r′) × (now (s .0) ≡ now (s′ .0))
 put-signed-only κs a r r′ s s′ p q = one-put p q
 
 pub put-hex-only : (κs : _) (a : _) (r r′ : _) (s s′ : _) → put-hex.Post κs a r s → put-hex.Post κs a r′ s′ → (r ≡ r′) × (now (s .0) ≡ now (s′ .0))

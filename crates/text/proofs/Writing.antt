@@ -12,30 +12,27 @@ use Rattle.text.specs.Put.{Room, Put}
 
 -- writing nothing changes nothing
 pub nothing : (out : List ℕ) (at : ℕ) → out ≡ written out at []
-unfolding written
-nothing out at = paste-zero out at []
+nothing out at = unfold written in paste-zero out at []
 
 -- a store is one byte written
 pub one : (out : List ℕ) (at b : ℕ) → at < length out → set out at b ≡ written out at (b ∷ [])
-unfolding written
-one out at b h = rw (add-one, set-split out at b h) (sym (append-snoc (take at out) b (drop (suc at) out)))
+one out at b h = unfold written in rw (add-one, set-split out at b h) (sym (append-snoc (take at out) b (drop (suc at) out)))
 
 -- what stands before the text stays
 later : (x : ℕ) (out : List ℕ) (at : ℕ) (s : List ℕ) → written (x ∷ out) (suc at) s ≡ x ∷ written out at s
-unfolding written
-later x out at s = rw suc-add
+later x out at s = unfold written in rw suc-add
 
 -- a text and then another, from the first place on
 first : (out s t : List ℕ) → written (written out 0 s) (length s) t ≡ written out 0 (s ++ t)
-unfolding written
-first out s t =
+first out s t = unfold written in
     simp (zero-add, length-append)
     (rw (take-append-seam s (drop (length s) out), drop-append-add s (drop (length s) out) (length t), drop-drop (length t) (length s) out))
 
 -- beyond the buffer
 beyond : (at : ℕ) (s t : List ℕ) → written (written [] at s) (at + length s) t ≡ written [] at (s ++ t)
 unfolding written
-beyond at s t = simp (take-nil, drop-nil, append-nil, take-all (at + length s) s (omega arith), drop-of-length-le s {i = at + length s + length t} (omega arith))
+beyond at s t =
+    simp (take-nil, drop-nil, append-nil, take-all (at + length s) s (omega arith), drop-of-length-le s {i = at + length s + length t} (omega arith))
 
 -- writing a text and then another after it is writing both
 pub both : (out : List ℕ) (at : ℕ) (s t : List ℕ) → written (written out at s) (at + length s) t ≡ written out at (s ++ t)
@@ -46,8 +43,7 @@ both (x ∷ out) (suc at) s t =
 
 -- the length stays
 pub same-size : (out : List ℕ) (at : ℕ) (s : List ℕ) → Room out at s → length (written out at s) ≡ length out
-unfolding written
-same-size out at s h = simp (length-append, length-take, length-drop) (omega arith)
+same-size out at s h = unfold written in simp (length-append, length-take, length-drop) (omega arith)
 
 -- what a writer of one byte does, and one that writes nothing
 pub byte : (out : List ℕ) (at b : ℕ) → at < length out → Put out at (b ∷ []) (at + 1) (set out at b)
@@ -73,5 +69,4 @@ more {last = last} {at = at} text i p h k =
 
 -- what was written from the first place on stands there
 pub front : {out last s : List ℕ} {next : ℕ} → Put out 0 s next last → take next last ≡ s
-unfolding written
-front {out} {s = s} p = rw (p .ends, p .holds, zero-add) (take-append-seam s (drop (length s) out))
+front {out} {s = s} p = unfold written in rw (p .ends, p .holds, zero-add) (take-append-seam s (drop (length s) out))

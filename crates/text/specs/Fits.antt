@@ -4,13 +4,14 @@ use Prim.Native.Nat.{ℕ}
 use lib.Dec.{leb}
 use lib.ListN.{length}
 use Rattle.word.specs.Choice.{pick}
+use Rattle.word.specs.Refusal.{NO_ROOM}
 use Rattle.text.specs.Text.{written}
 use Rattle.text.specs.declared.Written.{Written}
 
 -- the text's length; or 10, "line longer than the lent buffer"
 unfoldable pub answerOf : List ℕ → List ℕ → Written
 answerOf text out =
-    pick (leb (length text) (length out)) (record { refusal = 0; len = length text }) (record { refusal = 10; len = 0 })
+    pick (leb (length text) (length out)) (record { refusal = 0; len = length text }) (record { refusal = NO_ROOM; len = 0 })
 
 -- "A written line changes its own bytes and none after them"; a refusal changes none
 unfoldable pub lastOf : List ℕ → List ℕ → List ℕ

@@ -1,4 +1,5 @@
 //! Writers of short texts into a lent buffer. Each writes from place `at` on and gives the place after its text.
+use word::refusal::NO_ROOM;
 ghost use mathlib.Core.Path.{_≡_};
 ghost use mathlib.Core.List.{[], _∷_};
 ghost use Prim.Native.Nat.{_*_, _<_, _≤_, _^_};
@@ -6,9 +7,6 @@ ghost use Rattle.text.specs.Text.{decimalOf, signedOf, hexDigit, hexOf};
 ghost use Rattle.text.specs.Fits.{answerOf, lastOf};
 ghost use Rattle.text.specs.Put.{Room, Put};
 ghost use Rattle.text.specs.Entry.{wordOf, entryOf};
-
-/// The refusal of a text that is longer than the lent buffer.
-pub const NO_ROOM: u8 = 10;
 
 /// What writing gives: the number of bytes written, or the number of a refusal and 0.
 pub struct Written {

@@ -21,7 +21,9 @@ spread q r m M v = rw (add-mul, mul-right-comm q M m, add-assoc)
 
 -- what does not fit above may be lost first
 pub lost : (x m M v : ℕ) → (x % M * m + v) % M ≡ (x * m + v) % M
-lost x m M v = sym (ap (λ (n : ℕ). (n * m + v) % M) (sym (div-add-mod' x M)) ∙ rw (spread (x / M) (x % M) m M v) (mul-add-mod-self-right (x / M * m) M (x % M * m + v)))
+lost x m M v =
+    sym (ap (λ (n : ℕ). (n * m + v) % M) (sym (div-add-mod' x M)) ∙ rw (spread (x / M) (x % M) m M v)
+    (mul-add-mod-self-right (x / M * m) M (x % M * m + v)))
 
 pub one-more : (ks vs : List ℕ) (n w : ℕ) → n < length ks → n < length vs → w ≡ join (drop (suc n) ks) (drop (suc n) vs) % 2 ^ 32
     → (w * 2 ^ getD ks n 0 + getD vs n 0) % 2 ^ 32 ≡ join (drop n ks) (drop n vs) % 2 ^ 32

@@ -37,7 +37,13 @@ module _ (w lo k v : ℕ) (fits : ltb v (2 ^ k) ≡ true) where
   put-above lo' k' h = above (le-dest (leb→le (lo + k) lo' (subst T (sym h) tt)))
     where
       above : (d : ℕ) × (lo + k + d ≡ lo') → (w / 2 ^ (lo + k) * 2 ^ (lo + k) + (v * 2 ^ lo + w % 2 ^ lo)) / 2 ^ lo' % 2 ^ k' ≡ w / 2 ^ lo' % 2 ^ k'
-      above (d, e) = rw (← e, ← (P.shr-shr w (lo + k) d), ← (P.shr-shr (w / 2 ^ (lo + k) * 2 ^ (lo + k) + (v * 2 ^ lo + w % 2 ^ lo)) (lo + k) d), P.high (w / 2 ^ (lo + k)) (lo + k) inner)
+      above (d, e) =
+          rw (
+            ← e,
+            ← (P.shr-shr w (lo + k) d),
+            ← (P.shr-shr (w / 2 ^ (lo + k) * 2 ^ (lo + k) + (v * 2 ^ lo + w % 2 ^ lo)) (lo + k) d),
+            P.high (w / 2 ^ (lo + k)) (lo + k) inner,
+          )
 
   pub put-at : field (put w lo k v) lo k ≡ v
   unfolding field put
@@ -112,7 +118,13 @@ module _ (w lo k v n : ℕ) (fits : ltb v (2 ^ k) ≡ true) (h : leb (lo + k) n 
       from (d, e) =
           rw (← e, add-comm (lo + k) d)
           (P.mod-pow-add _ d (lo + k)
-          ∙ rw (P.high (w / 2 ^ (lo + k)) (lo + k) (inner w lo k v fits), P.low (w / 2 ^ (lo + k)) (lo + k) (inner w lo k v fits), P.field w d (lo + k), lower d))
+          ∙ rw (
+            P.high (w / 2 ^ (lo + k)) (lo + k) (inner w lo k v fits),
+            P.low (w / 2 ^ (lo + k)) (lo + k) (inner w lo k v fits),
+            P.field w d (lo + k),
+            lower d,
+          ))
 
   pub put-small : w < 2 ^ n → put w lo k v < 2 ^ n
-  put-small bound = subst (λ (x : ℕ). x < 2 ^ n) (put-within ∙ ap (λ (x : ℕ). put x lo k v) (low-bits w n ∙ mod-eq-of-lt bound)) (small (put w lo k v) 0 n)
+  put-small bound =
+      subst (λ (x : ℕ). x < 2 ^ n) (put-within ∙ ap (λ (x : ℕ). put x lo k v) (low-bits w n ∙ mod-eq-of-lt bound)) (small (put w lo k v) 0 n)

@@ -4,4 +4,5 @@ pub mod Every
 pub mod Field
 pub mod Layout
 pub mod Only
+pub mod Refusal
 pub mod Signed

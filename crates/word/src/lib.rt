@@ -9,6 +9,8 @@ ghost use Rattle.word.specs.Field.{field};
 ghost use Rattle.word.specs.Layout.{join, narrow, joined};
 ghost use Rattle.word.specs.Signed.{sextOf, targetOf, minus, signed};
 
+pub mod refusal;
+
 /// Bits `hi..=lo` of `w`.
 pub fn bits(w: u32, hi: u32, lo: u32) -> u32
     requires { ⌜ (lo ≤ hi) × (hi < 32) × (hi - lo < 31) ⌝ }

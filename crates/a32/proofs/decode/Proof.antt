@@ -2,22 +2,14 @@
 use borrow.Author.Needs.{needs}
 use borrow.Author.Tests.{ne-eqb}
 use Rattle.a32.specs.Decode.{decodeOf}
-use Rattle.a32.proofs.decode.Statement.{statement}
-use Rattle.a32.proofs.decode.Tie as tie
+use Rattle.a32.proofs.decode as f
 
-returns : tie.Need-returns
-unfolding decodeOf
-returns c =
-    simp (
-      c .unconditional .ensures,
-      c .before .if1 .taken,
-      ← (c .before .before .bits2 .ensures),
-      ← (c .before .before .before .bits .ensures),
-    )
+returns : f.Tie.Need-returns
+returns c = unfold decodeOf in
+    simp (c .unconditional .ensures, c .before .if1 .taken, ← (c .before .before .bits2 .ensures), ← (c .before .before .before .bits .ensures))
 
-returns-2 : tie.Need-returns-2
-unfolding decodeOf
-returns-2 c =
+returns-2 : f.Tie.Need-returns-2
+returns-2 c = unfold decodeOf in
     simp (
       c .refuse .ensures,
       c .before .if2 .taken,
@@ -26,9 +18,8 @@ returns-2 c =
       ← (c .before .before .before .before .bits .ensures),
     )
 
-returns-3 : tie.Need-returns-3
-unfolding decodeOf
-returns-3 c =
+returns-3 : f.Tie.Need-returns-3
+returns-3 c = unfold decodeOf in
     simp (
       c .group .ensures,
       ne-eqb _ _ (c .before .if2 .left),
@@ -37,7 +28,5 @@ returns-3 c =
       ← (c .before .before .before .before .bits .ensures),
     )
 
-pub decode-spec : {M : Type 1} → statement M
-decode-spec =
-    tie.close (tie.spec (search needs) (search needs) (search needs) returns (search needs)
-    returns-2 (search needs) returns-3)
+pub decode-spec : {M : Type 1} → f.Statement.statement M
+decode-spec = f.Tie.close (f.Tie.spec (search needs) (search needs) (search needs) returns (search needs) returns-2 (search needs) returns-3)

@@ -2,12 +2,10 @@
 use borrow.Author.Needs.{needs}
 use borrow.Author.Tests.{ne-eqb}
 use Rattle.a32.specs.Decode.{extraOf}
-use Rattle.a32.proofs.extra.Statement.{statement}
-use Rattle.a32.proofs.extra.Tie as tie
+use Rattle.a32.proofs.extra as f
 
-returns : tie.Need-returns
-unfolding extraOf
-returns c =
+returns : f.Tie.Need-returns
+returns c = unfold extraOf in
     simp (
       c .multiply .ensures,
       c .before .if2 .taken,
@@ -16,9 +14,8 @@ returns c =
       ← (c .before .before .before .before .bits .ensures),
     )
 
-returns-2 : tie.Need-returns-2
-unfolding extraOf
-returns-2 c =
+returns-2 : f.Tie.Need-returns-2
+returns-2 c = unfold extraOf in
     simp (
       c .sync .ensures,
       ne-eqb _ _ (c .before .if2 .left),
@@ -27,9 +24,8 @@ returns-2 c =
       ← (c .before .before .before .before .bits .ensures),
     )
 
-returns-3 : tie.Need-returns-3
-unfolding extraOf
-returns-3 c =
+returns-3 : f.Tie.Need-returns-3
+returns-3 c = unfold extraOf in
     simp (
       c .extra-ldst .ensures,
       ne-eqb _ _ (c .before .if1 .left),
@@ -37,7 +33,5 @@ returns-3 c =
       ← (c .before .before .before .bits .ensures),
     )
 
-pub extra-spec : {M : Type 1} → statement M
-extra-spec =
-    tie.close (tie.spec (search needs) (search needs) (search needs) (search needs) (search needs)
-    returns returns-2 returns-3)
+pub extra-spec : {M : Type 1} → f.Statement.statement M
+extra-spec = f.Tie.close (f.Tie.spec (search needs) (search needs) (search needs) (search needs) (search needs) returns returns-2 returns-3)

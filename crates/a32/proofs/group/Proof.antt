@@ -2,42 +2,22 @@
 use borrow.Author.Needs.{needs}
 use borrow.Author.Tests.{ne-eqb}
 use Rattle.a32.specs.Decode.{groupOf}
-use Rattle.a32.proofs.group.Statement.{statement}
-use Rattle.a32.proofs.group.Tie as tie
+use Rattle.a32.proofs.group as f
 
-returns : tie.Need-returns
+returns : f.Tie.Need-returns
 unfolding groupOf
-returns c =
-    simp (
-      c .dp-misc .ensures,
-      c .before .match .keys1,
-      ← (c .before .before .bit .ensures),
-      ← (c .before .before .before .bits .ensures),
-    )
+returns c = simp (c .dp-misc .ensures, c .before .match .keys1, ← (c .before .before .bit .ensures), ← (c .before .before .before .bits .ensures))
 
-returns-2 : tie.Need-returns-2
+returns-2 : f.Tie.Need-returns-2
 unfolding groupOf
-returns-2 c =
-    simp (
-      c .dp-imm .ensures,
-      c .before .match .keys2,
-      ← (c .before .before .bit .ensures),
-      ← (c .before .before .before .bits .ensures),
-    )
+returns-2 c = simp (c .dp-imm .ensures, c .before .match .keys2, ← (c .before .before .bit .ensures), ← (c .before .before .before .bits .ensures))
 
-returns-3 : tie.Need-returns-3
+returns-3 : f.Tie.Need-returns-3
 unfolding groupOf
-returns-3 c =
-    simp (
-      c .ldst .ensures,
-      c .before .match .keys3,
-      ← (c .before .before .bit .ensures),
-      ← (c .before .before .before .bits .ensures),
-    )
+returns-3 c = simp (c .ldst .ensures, c .before .match .keys3, ← (c .before .before .bit .ensures), ← (c .before .before .before .bits .ensures))
 
-returns-4 : tie.Need-returns-4
-unfolding groupOf
-returns-4 c =
+returns-4 : f.Tie.Need-returns-4
+returns-4 c = unfold groupOf in
     simp (
       c .ldst2 .ensures,
       c .before .if1 .taken,
@@ -46,9 +26,8 @@ returns-4 c =
       ← (c .before .before .before .before .bits .ensures),
     )
 
-returns-5 : tie.Need-returns-5
-unfolding groupOf
-returns-5 c =
+returns-5 : f.Tie.Need-returns-5
+returns-5 c = unfold groupOf in
     simp (
       c .media .ensures,
       ne-eqb _ _ (c .before .if1 .left),
@@ -57,29 +36,16 @@ returns-5 c =
       ← (c .before .before .before .before .bits .ensures),
     )
 
-returns-6 : tie.Need-returns-6
+returns-6 : f.Tie.Need-returns-6
 unfolding groupOf
-returns-6 c =
-    simp (
-      c .block .ensures,
-      c .before .match .keys5,
-      ← (c .before .before .bit .ensures),
-      ← (c .before .before .before .bits .ensures),
-    )
+returns-6 c = simp (c .block .ensures, c .before .match .keys5, ← (c .before .before .bit .ensures), ← (c .before .before .before .bits .ensures))
 
-returns-7 : tie.Need-returns-7
+returns-7 : f.Tie.Need-returns-7
 unfolding groupOf
-returns-7 c =
-    simp (
-      c .branch .ensures,
-      c .before .match .keys6,
-      ← (c .before .before .bit .ensures),
-      ← (c .before .before .before .bits .ensures),
-    )
+returns-7 c = simp (c .branch .ensures, c .before .match .keys6, ← (c .before .before .bit .ensures), ← (c .before .before .before .bits .ensures))
 
-returns-8 : tie.Need-returns-8
-unfolding groupOf
-returns-8 c =
+returns-8 : f.Tie.Need-returns-8
+returns-8 c = unfold groupOf in
     simp (
       c .refuse .ensures,
       ne-eqb _ _ (c .before .match .rest .1),
@@ -92,8 +58,7 @@ returns-8 c =
       ← (c .before .before .before .bits .ensures),
     )
 
-pub group-spec : {M : Type 1} → statement M
+pub group-spec : {M : Type 1} → f.Statement.statement M
 group-spec =
-    tie.close (tie.spec (search needs) (search needs) (search needs) (search needs) (search needs)
-    (search needs) (search needs) (search needs) (search needs) (search needs) returns returns-2
-    returns-3 returns-4 returns-5 returns-6 returns-7 returns-8)
+    f.Tie.close (f.Tie.spec (search needs) (search needs) (search needs) (search needs) (search needs) (search needs) (search needs) (search needs)
+    (search needs) (search needs) returns returns-2 returns-3 returns-4 returns-5 returns-6 returns-7 returns-8)

@@ -2,12 +2,10 @@
 use borrow.Author.Needs.{needs}
 use borrow.Author.Tests.{ne-eqb}
 use Rattle.a32.specs.Decode.{plainOf}
-use Rattle.a32.proofs.plain.Statement.{statement}
-use Rattle.a32.proofs.plain.Tie as tie
+use Rattle.a32.proofs.plain as f
 
-returns : tie.Need-returns
-unfolding plainOf
-returns c =
+returns : f.Tie.Need-returns
+returns c = unfold plainOf in
     simp (
       c .misc .ensures,
       c .before .if2 .taken,
@@ -16,9 +14,8 @@ returns c =
       ← (c .before .before .before .before .bit .ensures),
     )
 
-returns-2 : tie.Need-returns-2
-unfolding plainOf
-returns-2 c =
+returns-2 : f.Tie.Need-returns-2
+returns-2 c = unfold plainOf in
     simp (
       c .halfword .ensures,
       ne-eqb _ _ (c .before .if2 .left),
@@ -27,17 +24,9 @@ returns-2 c =
       ← (c .before .before .before .before .bit .ensures),
     )
 
-returns-3 : tie.Need-returns-3
+returns-3 : f.Tie.Need-returns-3
 unfolding plainOf
-returns-3 c =
-    simp (
-      c .dp-reg .ensures,
-      c .before .if1 .left,
-      ← (c .before .before .is-control .ensures),
-      ← (c .before .before .before .bit .ensures),
-    )
+returns-3 c = simp (c .dp-reg .ensures, c .before .if1 .left, ← (c .before .before .is-control .ensures), ← (c .before .before .before .bit .ensures))
 
-pub plain-spec : {M : Type 1} → statement M
-plain-spec =
-    tie.close (tie.spec (search needs) (search needs) (search needs) (search needs) (search needs)
-    returns returns-2 returns-3)
+pub plain-spec : {M : Type 1} → f.Statement.statement M
+plain-spec = f.Tie.close (f.Tie.spec (search needs) (search needs) (search needs) (search needs) (search needs) returns returns-2 returns-3)

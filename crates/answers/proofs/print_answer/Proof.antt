@@ -5,20 +5,14 @@ use lib.ListN.{length}
 use lib.Seq.{length-take-le}
 use Rattle.text.proofs.Settled.{within}
 use borrow.Author.Needs.{needs}
-use Rattle.answers.proofs.print_answer.Statement.{statement}
-use Rattle.answers.proofs.print_answer.Tie as tie
+use Rattle.answers.proofs.print_answer as f
 
-inside : (c : tie.After-line) → c .line .result .len ≤ length (c .line .last .1 .1 .0)
+inside : (c : f.Tie.After-line) → c .line .result .len ≤ length (c .line .last .1 .1 .0)
 inside c = rw (c .line .ensures .0, c .line .kept .1 .1 .0) (within _ _)
 
-array-share-prefix-text : tie.Need-array-share-prefix-text
-array-share-prefix-text c = inside (c .before .before .before .before .before .before .before .before)
-
-slice-aggregate-write-all-3 : tie.Need-slice-aggregate-write-all-3
-slice-aggregate-write-all-3 c = sym (length-take-le _ _ (inside (c .before .before .before .before .before .before .before .before .before)))
-
-pub print-answer-spec : {M : Type 1} → statement M
+pub print-answer-spec : {M : Type 1} → f.Statement.statement M
 print-answer-spec =
-    tie.close (tie.spec (search needs) (search needs) (search needs) (search needs) (search needs)
-    (search needs) (search needs) (search needs) (search needs) array-share-prefix-text
-    slice-aggregate-write-all-3 (search needs) (λ c. search needs))
+    f.Tie.close (f.Tie.spec (search needs) (search needs) (search needs) (search needs) (search needs) (search needs) (search needs) (search needs)
+    (search needs) (λ c. inside (c .before .before .before .before .before .before .before .before))
+    (λ c. sym (length-take-le _ _ (inside (c .before .before .before .before .before .before .before .before .before)))) (search needs)
+    (λ c. search needs))

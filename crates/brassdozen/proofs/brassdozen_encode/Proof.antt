@@ -3,10 +3,9 @@ use borrow.Author.Needs.{needs}
 use borrow.Author.Tests.{ne-eqb}
 use denote.Ref.{now}
 use Rattle.brassdozen.proofs.From.{encoded}
-use Rattle.brassdozen.proofs.brassdozen_encode.Statement.{statement}
-use Rattle.brassdozen.proofs.brassdozen_encode.Tie as tie
+use Rattle.brassdozen.proofs.brassdozen_encode as f
 
-returns : tie.Need-returns
+returns : f.Tie.Need-returns
 returns c =
     let answer = c .before .before .before .before .before in
     encoded (now (answer .before .before .before .before .args .row))
@@ -15,7 +14,7 @@ returns c =
     (answer .decode .ensures)
     (simp (c .pack .ensures, c .before .before .before .if1 .taken, ← c .before .before .is-row .ensures, c .before .if2 .taken))
 
-returns-2 : tie.Need-returns-2
+returns-2 : f.Tie.Need-returns-2
 returns-2 c =
     let answer = c .before .before .before .before .before in
     encoded (now (answer .before .before .before .before .args .row))
@@ -24,7 +23,7 @@ returns-2 c =
     (answer .decode .ensures)
     (simp (c .pack2 .ensures, c .before .before .before .if1 .taken, ← c .before .before .is-row .ensures, c .before .if2 .left))
 
-returns-3 : tie.Need-returns-3
+returns-3 : f.Tie.Need-returns-3
 returns-3 c =
     let answer = c .before .before .before in
     encoded (now (answer .before .before .before .before .args .row))
@@ -33,7 +32,7 @@ returns-3 c =
     (answer .decode .ensures)
     (simp (c .pack3 .ensures, ne-eqb _ _ (c .before .if1 .left)))
 
-pub brassdozen-encode-spec : {M : Type 1} → statement M
+pub brassdozen-encode-spec : {M : Type 1} → f.Statement.statement M
 brassdozen-encode-spec =
-    tie.close (tie.spec (search needs) (search needs) (search needs) (search needs) (search needs)
-    (search needs) (search needs) returns returns-2 returns-3)
+    f.Tie.close (f.Tie.spec (search needs) (search needs) (search needs) (search needs) (search needs) (search needs) (search needs) returns returns-2
+    returns-3)

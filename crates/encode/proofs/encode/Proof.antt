@@ -2,31 +2,28 @@
 use borrow.Author.Needs.{needs}
 use borrow.Author.Tests.{ne-eqb}
 use Rattle.encode.proofs.Encodes.{encoded}
-use Rattle.encode.proofs.encode.Statement.{statement}
-use Rattle.encode.proofs.encode.Tie as tie
+use Rattle.encode.proofs.encode as f
 
-returns : tie.Need-returns
+returns : f.Tie.Need-returns
 returns c =
     encoded _
     (c .before .before .before .before .before .word-of .ensures)
     (c .before .before .before .before .decode .ensures)
     (simp (c .before .before .if1 .taken, ← c .before .same .ensures, c .if2 .taken))
 
-returns-2 : tie.Need-returns-2
+returns-2 : f.Tie.Need-returns-2
 returns-2 c =
     encoded _
     (c .before .before .before .before .before .before .word-of .ensures)
     (c .before .before .before .before .before .decode .ensures)
     (simp (c .refuse .ensures, c .before .before .before .if1 .taken, ← c .before .before .same .ensures, c .before .if2 .left))
 
-returns-3 : tie.Need-returns-3
+returns-3 : f.Tie.Need-returns-3
 returns-3 c =
     encoded _
     (c .before .before .before .before .word-of .ensures)
     (c .before .before .before .decode .ensures)
     (simp (c .refuse2 .ensures, ne-eqb _ _ (c .before .if1 .left)))
 
-pub encode-spec : {M : Type 1} → statement M
-encode-spec =
-    tie.close (tie.spec (search needs) (search needs) (search needs) (search needs) (search needs)
-    returns returns-2 returns-3)
+pub encode-spec : {M : Type 1} → f.Statement.statement M
+encode-spec = f.Tie.close (f.Tie.spec (search needs) (search needs) (search needs) (search needs) (search needs) returns returns-2 returns-3)

@@ -2,14 +2,9 @@
 use borrow.Author.Needs.{needs}
 use native.Mathlib.Omega.{arith}
 use Rattle.text.proofs.Digits.{hex-low}
-use Rattle.line.proofs.put_address.Statement.{statement}
-use Rattle.line.proofs.put_address.Tie as tie
+use Rattle.line.proofs.put_address as f
 
-put-hex-requires : tie.Need-put-hex-requires
-put-hex-requires c κs = (omega arith, rw (hex-low 8 (c .before .before .args .addr)) (c .before .before .pre))
-
-returns : tie.Need-returns
-returns c = rw (hex-low 8 (c .before .before .before .before .before .args .addr)) at (c .before .before .put-hex .ensures)
-
-pub put-address-spec : {M : Type 1} → statement M
-put-address-spec = tie.close (tie.spec (search needs) put-hex-requires (λ c. search needs) returns)
+pub put-address-spec : {M : Type 1} → f.Statement.statement M
+put-address-spec =
+    f.Tie.close (f.Tie.spec (search needs) (λ c κs. (omega arith, rw (hex-low 8 (c .before .before .args .addr)) (c .before .before .pre)))
+    (λ c. search needs) (λ c. rw (hex-low 8 (c .before .before .before .before .before .args .addr)) at (c .before .before .put-hex .ensures)))

@@ -3,37 +3,40 @@ use borrow.Author.Needs.{needs}
 use native.Mathlib.Omega.{arith}
 use lib.ListN.{length-append}
 use Rattle.text.proofs.Writing.{_then_}
-use Rattle.spelling.specs.Line.{lineText}
-use Rattle.line.proofs.put_answered.Statement.{statement}
-use Rattle.line.proofs.put_answered.Tie as tie
+use Rattle.line_spelling.specs.Line.{lineText}
+use Rattle.line.proofs.put_answered as f
 
-put-address-requires : tie.Need-put-address-requires
+put-hex-requires : f.Tie.Need-put-hex-requires
 unfolding lineText
-put-address-requires c κs = omega (arith, simp length-append at (c .before .before .pre))
+put-hex-requires c κs =
+    (omega arith, omega (arith, simp length-append at (c .before .before .before .before .before .before .before .before .before .before .pre)))
 
-put-byte-requires : tie.Need-put-byte-requires
+put-byte-requires-2 : f.Tie.Need-put-byte-requires-2
 unfolding lineText
-put-byte-requires c κs = omega (arith, simp length-append at (c .before .before .before .before .before .before .pre))
+put-byte-requires-2 c κs =
+    omega (
+      arith,
+      simp length-append at (c .before .before .before .before .before .before .before .before .before .before .before .before .before .before .pre),
+    )
 
-put-hex-requires : tie.Need-put-hex-requires
+put-answer-requires : f.Tie.Need-put-answer-requires
 unfolding lineText
-put-hex-requires c κs = (omega arith, omega (arith, simp length-append at (c .before .before .before .before .before .before .before .before .before .before .pre)))
+put-answer-requires c κs =
+    omega (
+      arith,
+      simp length-append at (c .before .before .before .before .before .before .before .before .before .before .before .before .before .before .before .before .before .before .pre),
+    )
 
-put-byte-requires-2 : tie.Need-put-byte-requires-2
+put-byte-requires-3 : f.Tie.Need-put-byte-requires-3
 unfolding lineText
-put-byte-requires-2 c κs = omega (arith, simp length-append at (c .before .before .before .before .before .before .before .before .before .before .before .before .before .before .pre))
+put-byte-requires-3 c κs =
+    omega (
+      arith,
+      simp length-append at (c .before .before .before .before .before .before .before .before .before .before .before .before .before .before .before .before .before .before .before .before .before .before .pre),
+    )
 
-put-answer-requires : tie.Need-put-answer-requires
-unfolding lineText
-put-answer-requires c κs = omega (arith, simp length-append at (c .before .before .before .before .before .before .before .before .before .before .before .before .before .before .before .before .before .before .pre))
-
-put-byte-requires-3 : tie.Need-put-byte-requires-3
-unfolding lineText
-put-byte-requires-3 c κs = omega (arith, simp length-append at (c .before .before .before .before .before .before .before .before .before .before .before .before .before .before .before .before .before .before .before .before .before .before .pre))
-
-returns : tie.Need-returns
-unfolding lineText
-returns c =
+returns : f.Tie.Need-returns
+returns c = unfold lineText in
     let sixth = c .before .before in
     let fifth = sixth .before .before .before .before in
     let fourth = fifth .before .before .before .before in
@@ -47,7 +50,8 @@ returns c =
     then fifth .put-answer .ensures
     then sixth .put-byte3 .ensures
 
-pub put-answered-spec : {M : Type 1} → statement M
+pub put-answered-spec : {M : Type 1} → f.Statement.statement M
 put-answered-spec =
-    tie.close (tie.spec put-address-requires put-byte-requires put-hex-requires put-byte-requires-2
-    put-answer-requires put-byte-requires-3 (λ c. search needs) returns)
+    f.Tie.close (f.Tie.spec (λ c κs. unfold lineText in omega (arith, simp length-append at (c .before .before .pre)))
+    (λ c κs. unfold lineText in omega (arith, simp length-append at (c .before .before .before .before .before .before .pre))) put-hex-requires
+    put-byte-requires-2 put-answer-requires put-byte-requires-3 (λ c. search needs) returns)

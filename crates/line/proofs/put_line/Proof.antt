@@ -1,14 +1,8 @@
 -- `line::put_line` meets its contract. Assumes nothing.
 use borrow.Author.Needs.{needs}
-use Rattle.line.proofs.put_line.Statement.{statement}
-use Rattle.line.proofs.put_line.Tie as tie
+use Rattle.line.proofs.put_line as f
 
-put-answered-requires : tie.Need-put-answered-requires
-put-answered-requires c κs = rw (c .decode .ensures) (c .before .before .before .pre)
-
-returns : tie.Need-returns
-returns c = rw (c .before .before .before .decode .ensures) at (c .before .before .put-answered .ensures)
-
-pub put-line-spec : {M : Type 1} → statement M
+pub put-line-spec : {M : Type 1} → f.Statement.statement M
 put-line-spec =
-    tie.close (tie.spec (search needs) put-answered-requires (λ c. search needs) returns)
+    f.Tie.close (f.Tie.spec (search needs) (λ c κs. rw (c .decode .ensures) (c .before .before .before .pre)) (λ c. search needs)
+    (λ c. rw (c .before .before .before .decode .ensures) at (c .before .before .put-answered .ensures)))

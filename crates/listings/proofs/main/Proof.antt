@@ -2,34 +2,13 @@
 use Prim.Native.Nat.{_-_}
 use native.Mathlib.Omega.{arith}
 use borrow.Author.Needs.{needs}
-use Rattle.listings.proofs.main.Statement.{statement}
-use Rattle.listings.proofs.main.Tie as tie
+use Rattle.listings.proofs.main as f
 
-abbrev Inv-loop : tie.InvT-loop
+abbrev Inv-loop : f.Tie.InvT-loop
 Inv-loop count n₀ n = Unit {0}
 
-abbrev μ-loop : tie.MeasureT-loop
+abbrev μ-loop : f.Tie.MeasureT-loop
 μ-loop count n₀ n = count - n
 
-arg-count-requires : tie.Need-arg-count-requires Inv-loop μ-loop
-arg-count-requires c κs = tt
-
-loop-holds : tie.Need-loop-holds Inv-loop μ-loop
-loop-holds c = tt
-
-list-file-requires : tie.Need-list-file-requires Inv-loop μ-loop
-list-file-requires c κs = tt
-
-loop-less : tie.Need-loop-less Inv-loop μ-loop
-loop-less c = omega arith
-
-loop-again : tie.Need-loop-again Inv-loop μ-loop
-loop-again c = tt
-
-returns : tie.Need-returns Inv-loop μ-loop
-returns c = tt
-
-pub main-spec : {M : Type 1} → statement M
-main-spec =
-    tie.close (tie.spec Inv-loop μ-loop arg-count-requires loop-holds list-file-requires
-    (search needs) loop-less loop-again returns)
+pub main-spec : {M : Type 1} → f.Statement.statement M
+main-spec = f.Tie.close (f.Tie.spec Inv-loop μ-loop (λ c κs. tt) (λ c. tt) (λ c κs. tt) (search needs) (λ c. omega arith) (λ c. tt) (λ c. tt))

@@ -3,19 +3,9 @@ use mathlib.Core.Path.{sym, _∙_}
 use native.Mathlib.Omega.{arith}
 use borrow.Author.Needs.{needs}
 use Rattle.section.proofs.Accepted.{accepted, opens, refuses}
-use Rattle.section.proofs.open.Statement.{statement}
-use Rattle.section.proofs.open.Tie as tie
+use Rattle.section.proofs.open as f
 
-version-requires : tie.Need-version-requires
-version-requires c κs = omega (arith, (accepted _ (sym (c .before .refusal .ensures) ∙ c .if1 .taken)) .long)
-
-base-requires : tie.Need-base-requires
-base-requires c κs = omega (arith, (accepted _ (sym (c .before .before .refusal .ensures) ∙ c .before .if1 .taken)) .long)
-
-count-requires : tie.Need-count-requires
-count-requires c κs = omega (arith, (accepted _ (sym (c .before .before .before .refusal .ensures) ∙ c .before .before .if1 .taken)) .long)
-
-cast-t8 : tie.Need-cast-t8
+cast-t8 : f.Tie.Need-cast-t8
 cast-t8 c =
     omega (
       arith,
@@ -23,17 +13,19 @@ cast-t8 c =
       (accepted _ (sym (c .before .before .before .before .refusal .ensures) ∙ c .before .before .before .if1 .taken)) .few,
     )
 
-returns : tie.Need-returns
+returns : f.Tie.Need-returns
 returns c =
     rw (opens _ (sym (c .before .before .before .before .refusal .ensures) ∙ c .before .before .before .if1 .taken))
     (simp (c .count .ensures, c .before .base .ensures, c .before .before .version .ensures))
 
-returns-2 : tie.Need-returns-2
+returns-2 : f.Tie.Need-returns-2
 returns-2 c =
     let is = c .before .refusal .ensures in
     rw (refuses _ (λ z. c .if1 .left (is ∙ z))) (simp is)
 
-pub open-spec : {M : Type 1} → statement M
+pub open-spec : {M : Type 1} → f.Statement.statement M
 open-spec =
-    tie.close (tie.spec (search needs) version-requires base-requires count-requires cast-t8 returns
+    f.Tie.close (f.Tie.spec (search needs) (λ c κs. omega (arith, (accepted _ (sym (c .before .refusal .ensures) ∙ c .if1 .taken)) .long))
+    (λ c κs. omega (arith, (accepted _ (sym (c .before .before .refusal .ensures) ∙ c .before .if1 .taken)) .long))
+    (λ c κs. omega (arith, (accepted _ (sym (c .before .before .before .refusal .ensures) ∙ c .before .before .if1 .taken)) .long)) cast-t8 returns
     returns-2)

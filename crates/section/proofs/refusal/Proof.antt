@@ -3,20 +3,10 @@ use mathlib.Core.Path.{sym, _∙_}
 use borrow.Author.Tests.{le-ltb, lt-ltb, ne-eqb, not-false}
 use Rattle.section.specs.Section.{refusalOf}
 use borrow.Author.Needs.{needs}
-use Rattle.section.proofs.refusal.Statement.{statement}
-use Rattle.section.proofs.refusal.Tie as tie
+use Rattle.section.proofs.refusal as f
 
-returns : tie.Need-returns
-unfolding refusalOf
-returns c = simp (lt-ltb _ _ (c .if1 .taken))
-
-returns-2 : tie.Need-returns-2
-unfolding refusalOf
-returns-2 c = simp (c .if2 .taken, ← (c .before .is-marked .ensures), le-ltb _ _ (c .before .before .if1 .left))
-
-returns-3 : tie.Need-returns-3
-unfolding refusalOf
-returns-3 c =
+returns-3 : f.Tie.Need-returns-3
+returns-3 c = unfold refusalOf in
     simp (
       ne-eqb _ _ (c .if3 .taken),
       ← (c .before .version .ensures),
@@ -25,14 +15,15 @@ returns-3 c =
       le-ltb _ _ (c .before .before .before .before .if1 .left),
     )
 
-words-refusal-requires : tie.Need-words-refusal-requires
+words-refusal-requires : f.Tie.Need-words-refusal-requires
 words-refusal-requires c κs = (
   c .before .before .before .before .if1 .left,
   sym (c .before .before .before .is-marked .ensures) ∙ not-false _ (c .before .before .if2 .left),
   sym (c .before .version .ensures) ∙ c .if3 .left,
 )
 
-pub refusal-spec : {M : Type 1} → statement M
+pub refusal-spec : {M : Type 1} → f.Statement.statement M
 refusal-spec =
-    tie.close (tie.spec returns (search needs) returns-2 (search needs) returns-3
-    words-refusal-requires (λ c. search needs))
+    f.Tie.close (f.Tie.spec (λ c. unfold refusalOf in simp (lt-ltb _ _ (c .if1 .taken))) (search needs)
+    (λ c. unfold refusalOf in simp (c .if2 .taken, ← (c .before .is-marked .ensures), le-ltb _ _ (c .before .before .if1 .left))) (search needs)
+    returns-3 words-refusal-requires (λ c. search needs))

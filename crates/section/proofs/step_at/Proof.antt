@@ -11,8 +11,7 @@ use Rattle.section.specs.declared.Here.the-variants.{End}
 use Rattle.section.specs.declared.Opened.{Opened}
 use Rattle.section.proofs.Accepted.{opened}
 use Rattle.section.proofs.Places.{how-many, before-end, at-end}
-use Rattle.section.proofs.step_at.Statement.{statement}
-use Rattle.section.proofs.step_at.Tie as tie
+use Rattle.section.proofs.step_at as f
 
 -- a place of a section, before its end and not
 module _ (s : List ℕ) (o : Opened) (is : o ≡ openedOf s) (place : ℕ) where
@@ -36,37 +35,49 @@ module _ (s : List ℕ) (o : Opened) (is : o ≡ openedOf s) (place : ℕ) where
       let over : length (placesOf s) ≤ place = omega (arith, count) in
       simp (at-end s over, le-ltb place (length (placesOf s)) over)
 
-add-word-at : tie.Need-add-word-at
+add-word-at : f.Tie.Need-add-word-at
 add-word-at c =
     let start = c .before .before .before .before in
     record { fits = omega (arith, held (start .args .bytes .now) (start .args .opened) (start .pre) (start .args .place) (c .before .if1 .taken)) }
 
-word-at-requires : tie.Need-word-at-requires
+word-at-requires : f.Tie.Need-word-at-requires
 word-at-requires c κs =
     let start = c .before .before .before .before in
     held (start .args .bytes .now) (start .args .opened) (start .pre) (start .args .place) (c .before .if1 .taken)
 
-mul-t11 : tie.Need-mul-t11
+mul-t11 : f.Tie.Need-mul-t11
 mul-t11 c =
     let start = c .before .before .before .before .before in
-    record { fits = omega (arith, addressed (start .args .bytes .now) (start .args .opened) (start .pre) (start .args .place) (c .before .before .if1 .taken)) }
+    record {
+      fits = omega (
+        arith,
+        addressed (start .args .bytes .now) (start .args .opened) (start .pre) (start .args .place)
+            (c .before .before .if1 .taken),
+      );
+    }
 
-add-t12 : tie.Need-add-t12
+add-t12 : f.Tie.Need-add-t12
 add-t12 c =
     let start = c .before .before .before .before .before .before in
-    record { fits = addressed (start .args .bytes .now) (start .args .opened) (start .pre) (start .args .place) (c .before .before .before .if1 .taken) }
+    record {
+      fits = addressed (start .args .bytes .now) (start .args .opened) (start .pre) (start .args .place)
+          (c .before .before .before .if1 .taken);
+    }
 
-returns : tie.Need-returns
+returns : f.Tie.Need-returns
 returns c =
     let start = c .before .before .before .before .before .before in
-    rw (goes-on (start .args .bytes .now) (start .args .opened) (start .pre) (start .args .place) (c .before .before .before .if1 .taken), ← (c .before .word-at .ensures))
+    rw (
+      goes-on (start .args .bytes .now) (start .args .opened) (start .pre) (start .args .place) (c .before .before .before .if1 .taken),
+      ← (c .before .word-at .ensures),
+    )
 
-returns-2 : tie.Need-returns-2
+returns-2 : f.Tie.Need-returns-2
 returns-2 c =
     let start = c .before .before .before in
     sym (stops (start .args .bytes .now) (start .args .opened) (start .pre) (start .args .place) (c .if1 .left))
 
-pub step-at-spec : {M : Type 1} → statement M
+pub step-at-spec : {M : Type 1} → f.Statement.statement M
 step-at-spec =
-    tie.close (tie.spec (search needs) (search needs) add-word-at word-at-requires (search needs)
-    mul-t11 add-t12 (search needs) returns returns-2)
+    f.Tie.close (f.Tie.spec (search needs) (search needs) add-word-at word-at-requires (search needs) mul-t11 add-t12 (search needs) returns
+    returns-2)

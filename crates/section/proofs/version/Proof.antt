@@ -1,22 +1,10 @@
 -- `section::version` meets its contract. Assumes nothing.
 use native.Mathlib.Omega.{arith}
 use borrow.Author.Needs.{needs}
-use Rattle.section.proofs.version.Statement.{statement}
-use Rattle.section.proofs.version.Tie as tie
+use Rattle.section.proofs.version as f
 
-cast-result : tie.Need-cast-result
-cast-result c = omega (arith, c .shared-slice-known .given 3)
-
-cast-result-2 : tie.Need-cast-result-2
-cast-result-2 c = omega (arith, c .shared-slice-known2 .given 4)
-
-mul-result : tie.Need-mul-result
-mul-result c = omega (arith, c .shared-slice-known2 .given 4)
-
-add-result : tie.Need-add-result
-add-result c = omega (arith, c .before .shared-slice-known .given 3, c .shared-slice-known2 .given 4)
-
-pub version-spec : {M : Type 1} → statement M
+pub version-spec : {M : Type 1} → f.Statement.statement M
 version-spec =
-    tie.close (tie.spec (search needs) cast-result (search needs) cast-result-2 mul-result
-    add-result (λ c. search needs))
+    f.Tie.close (f.Tie.spec (search needs) (λ c. omega (arith, c .shared-slice-known .given 3)) (search needs)
+    (λ c. omega (arith, c .shared-slice-known2 .given 4)) (λ c. omega (arith, c .shared-slice-known2 .given 4))
+    (λ c. omega (arith, c .before .shared-slice-known .given 3, c .shared-slice-known2 .given 4)) (λ c. search needs))

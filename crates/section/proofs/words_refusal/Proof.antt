@@ -2,23 +2,15 @@
 use borrow.Author.Tests.{le-ltb, lt-ltb, eq-eqb, ne-eqb}
 use Rattle.section.specs.Section.{refusalOf}
 use borrow.Author.Needs.{needs}
-use Rattle.section.proofs.words_refusal.Statement.{statement}
-use Rattle.section.proofs.words_refusal.Tie as tie
+use Rattle.section.proofs.words_refusal as f
 
-returns : tie.Need-returns
-unfolding refusalOf
-returns c =
+returns : f.Tie.Need-returns
+returns c = unfold refusalOf in
     let pre = c .before .before .pre in
-    simp (
-      ne-eqb _ _ (c .if1 .taken),
-      eq-eqb _ _ (pre .2),
-      pre .1,
-      le-ltb _ _ (pre .0),
-    )
+    simp (ne-eqb _ _ (c .if1 .taken), eq-eqb _ _ (pre .2), pre .1, le-ltb _ _ (pre .0))
 
-returns-2 : tie.Need-returns-2
-unfolding refusalOf
-returns-2 c =
+returns-2 : f.Tie.Need-returns-2
+returns-2 c = unfold refusalOf in
     let pre = c .before .before .before .before .pre in
     simp (
       lt-ltb _ _ (c .if2 .taken),
@@ -29,9 +21,8 @@ returns-2 c =
       le-ltb _ _ (pre .0),
     )
 
-returns-3 : tie.Need-returns-3
-unfolding refusalOf
-returns-3 c =
+returns-3 : f.Tie.Need-returns-3
+returns-3 c = unfold refusalOf in
     let pre = c .before .before .before .before .before .before .pre in
     simp (
       ne-eqb _ _ (c .if3 .taken),
@@ -44,9 +35,8 @@ returns-3 c =
       le-ltb _ _ (pre .0),
     )
 
-returns-4 : tie.Need-returns-4
-unfolding refusalOf
-returns-4 c =
+returns-4 : f.Tie.Need-returns-4
+returns-4 c = unfold refusalOf in
     let pre = c .before .before .before .before .before .before .before .pre in
     simp (
       lt-ltb _ _ (c .if4 .taken),
@@ -60,9 +50,8 @@ returns-4 c =
       le-ltb _ _ (pre .0),
     )
 
-returns-5 : tie.Need-returns-5
-unfolding refusalOf
-returns-5 c =
+returns-5 : f.Tie.Need-returns-5
+returns-5 c = unfold refusalOf in
     let pre = c .before .before .before .before .before .before .before .pre in
     simp (
       le-ltb _ _ (c .if4 .left),
@@ -76,7 +65,7 @@ returns-5 c =
       le-ltb _ _ (pre .0),
     )
 
-pub words-refusal-spec : {M : Type 1} → statement M
+pub words-refusal-spec : {M : Type 1} → f.Statement.statement M
 words-refusal-spec =
-    tie.close (tie.spec (search needs) returns (search needs) returns-2 (search needs) returns-3
-    (search needs) (search needs) (search needs) returns-4 returns-5)
+    f.Tie.close (f.Tie.spec (search needs) returns (search needs) returns-2 (search needs) returns-3 (search needs) (search needs) (search needs)
+    returns-4 returns-5)

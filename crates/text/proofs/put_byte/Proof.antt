@@ -2,11 +2,7 @@
 use borrow.Author.Needs.{needs}
 use native.Mathlib.Omega.{arith}
 use Rattle.text.proofs.Writing.{byte}
-use Rattle.text.proofs.put_byte.Statement.{statement}
-use Rattle.text.proofs.put_byte.Tie as tie
+use Rattle.text.proofs.put_byte as f
 
-returns : tie.Need-returns
-returns c = byte _ _ _ (omega arith)
-
-pub put-byte-spec : {M : Type 1} → statement M
-put-byte-spec = tie.close (tie.spec (search needs) (search needs) (λ c. search needs) returns)
+pub put-byte-spec : {M : Type 1} → f.Statement.statement M
+put-byte-spec = f.Tie.close (f.Tie.spec (search needs) (search needs) (λ c. search needs) (λ c. byte _ _ _ (omega arith)))

@@ -9,27 +9,22 @@ use Rattle.text.specs.Text.{hexOf}
 use Rattle.text.specs.Put.{Put}
 use Rattle.text.proofs.Writing.{none, _then_}
 use Rattle.text.proofs.Digits.{hex-size, hex-more}
-use Rattle.text.proofs.put_hex.Statement.{statement}
-use Rattle.text.proofs.put_hex.Tie as tie
+use Rattle.text.proofs.put_hex as f
 
-abbrev Inv-loop : tie.InvT-loop
+abbrev Inv-loop : f.Tie.InvT-loop
 Inv-loop out₀ at n digits at₀ left₀ out at' left =
     (left ≤ digits) × (length out ≡ length out₀) × Put out₀ at (hexOf (digits - left) (n / 2 ^ (4 * left))) at' out
 
-abbrev μ-loop : tie.MeasureT-loop
+abbrev μ-loop : f.Tie.MeasureT-loop
 μ-loop out₀ at n digits at₀ left₀ out at' left = left
 
-loop-holds : tie.Need-loop-holds Inv-loop μ-loop
-unfolding hexOf
-loop-holds c = (omega arith, refl, rw (sub-self (c .before .args .digits)) (none _ _))
-
-put-byte-requires : tie.Need-put-byte-requires Inv-loop μ-loop
+put-byte-requires : f.Tie.Need-put-byte-requires Inv-loop μ-loop
 put-byte-requires c κs =
     let now = c .before .before .before .loop in
     let given = c .before .before .before .before .before .args in
     omega (arith, hex-size (given .digits - now .left) (given .n / 2 ^ (4 * now .left)), hex-size (given .digits) (given .n))
 
-loop-again : tie.Need-loop-again Inv-loop μ-loop
+loop-again : f.Tie.Need-loop-again Inv-loop μ-loop
 loop-again c =
     let now = c .before .before .before .before .before .before .loop in
     let given = c .before .before .before .before .before .before .before .before .args in (
@@ -39,16 +34,13 @@ loop-again c =
           (now .inv .2 then c .before .before .put-byte .ensures),
     )
 
-same-length : tie.Need-same-length Inv-loop μ-loop
-same-length c = c .before .loop .inv .1
-
-returns : tie.Need-returns Inv-loop μ-loop
+returns : f.Tie.Need-returns Inv-loop μ-loop
 returns c =
     let none-left : c .before .loop .left ≡ 0 = omega arith in
     simp (none-left, sub-zero, div-one) at (c .before .loop .inv .2)
 
-pub put-hex-spec : {M : Type 1} → statement M
+pub put-hex-spec : {M : Type 1} → f.Statement.statement M
 put-hex-spec =
-    tie.close (tie.spec Inv-loop μ-loop loop-holds (search needs) (search needs) (search needs)
-    (search needs) (search needs) (search needs) put-byte-requires (search needs) loop-again
-    same-length returns)
+    f.Tie.close (f.Tie.spec Inv-loop μ-loop (λ c. unfold hexOf in (omega arith, refl, rw (sub-self (c .before .args .digits)) (none _ _)))
+    (search needs) (search needs) (search needs) (search needs) (search needs) (search needs) put-byte-requires (search needs) loop-again
+    (λ c. c .before .loop .inv .1) returns)

@@ -16,20 +16,17 @@ use mir.Val.{SFits, toZ, ofZ}
 use mir.ValLaws.{toZ-pos, toZ-ofZ}
 use Rattle.text.specs.Text.{bytes, decimalOf, signedOf}
 use Rattle.text.proofs.Writing.{_then_}
-use Rattle.text.proofs.put_signed.Statement.{statement}
-use Rattle.text.proofs.put_signed.Tie as tie
+use Rattle.text.proofs.put_signed as f
 
 abbrev complement : ℕ → ℕ
 complement n = 2 ^ 64 - 1 - n
 
 -- what the code's test tells of z
-below : {z : ℤ} → SFits w64 z → ltZ (toZ w64 (ofZ w64 z)) (pos 0) ≡ true → (toZ w64 (complement (ofZ w64 z)) ≡ pos (mag z)) × (signedOf z ≡ bytes "-" ++ decimalOf (mag z + 1))
+below : {z : ℤ} → SFits w64 z → ltZ (toZ w64 (ofZ w64 z)) (pos 0) ≡ true → (toZ w64 (complement (ofZ w64 z)) ≡ pos (mag z))
+    × (signedOf z ≡ bytes "-" ++ decimalOf (mag z + 1))
 unfolding signedOf
 below {z = pos n} fits e = absurd (not-suc-le-zero (ltb-true n 0 (rw (toZ-pos w64 n (fits .sfits)) at e)))
-below {z = negsuc n} fits e = (
-  ap (toZ w64) {x = complement (ofZ w64 (negsuc n))} {y = n} (omega arith) ∙ toZ-pos w64 n (fits .sfits),
-  rw (add-one n),
-)
+below {z = negsuc n} fits e = (ap (toZ w64) {x = complement (ofZ w64 (negsuc n))} {y = n} (omega arith) ∙ toZ-pos w64 n (fits .sfits), rw (add-one n))
 
 above : {z : ℤ} → SFits w64 z → ltZ (toZ w64 (ofZ w64 z)) (pos 0) ≡ false → (toZ w64 (ofZ w64 z) ≡ pos (mag z)) × (signedOf z ≡ decimalOf (mag z))
 unfolding signedOf
@@ -39,47 +36,35 @@ above {z = negsuc n} fits e =
     let clash : _≡_ {A = ℕ} 0 1 = cc in
     absurd (omega arith)
 
-put-byte-requires : tie.Need-put-byte-requires
-put-byte-requires c κs = omega (arith, ap length (below (c .before .before .before .fits .v) (c .before .if1 .taken) .1))
-
 -- once the sign is written
-module _ (c : tie.After-put-decimal-arg) where
-  abbrev start : tie.Start
+module _ (c : f.Tie.After-put-decimal-arg) where
+  abbrev start : f.Tie.Start
   start = c .before .before .before .before .before .before .before
 
-  abbrev minus : (toZ w64 (complement (ofZ w64 (start .args .v))) ≡ pos (mag (start .args .v))) × (signedOf (start .args .v) ≡ bytes "-" ++ decimalOf (mag (start .args .v) + 1))
+  abbrev minus : (toZ w64 (complement (ofZ w64 (start .args .v))) ≡ pos (mag (start .args .v)))
+      × (signedOf (start .args .v) ≡ bytes "-" ++ decimalOf (mag (start .args .v) + 1))
   minus = below (start .fits .v) (c .before .before .before .before .before .if1 .taken)
 
-cast-put-decimal : tie.Need-cast-put-decimal
-cast-put-decimal c = rw (minus c .0) (tt, record { fits = omega (arith, start c .fits .v) })
-
-add-put-decimal : tie.Need-add-put-decimal
-add-put-decimal c = rw (minus c .0) (record { fits = omega (arith, start c .fits .v) })
-
-put-decimal-requires : tie.Need-put-decimal-requires
-put-decimal-requires c κs = rw (minus c .0) (omega (arith, ap length (minus c .1)))
-
-cast-put-decimal-2 : tie.Need-cast-put-decimal-2
-cast-put-decimal-2 c = rw (above (c .before .before .before .fits .v) (c .before .if1 .left) .0) (tt, record { fits = omega arith })
-
-put-decimal-requires-2 : tie.Need-put-decimal-requires-2
+put-decimal-requires-2 : f.Tie.Need-put-decimal-requires-2
 put-decimal-requires-2 c κs =
     let a = above (c .before .before .before .fits .v) (c .before .if1 .left) in
     rw (a .0) (rw (a .1) at (c .before .before .before .pre))
 
-returns : tie.Need-returns
+returns : f.Tie.Need-returns
 returns c =
     let asked = c .before .before .before in
     rw (minus asked .1) (asked .before .before .before .put-byte .ensures then rw (minus asked .0) at (c .before .before .put-decimal .ensures))
 
-returns-2 : tie.Need-returns-2
+returns-2 : f.Tie.Need-returns-2
 returns-2 c =
     let asked = c .before .before .before in
     let a = above (asked .before .before .before .fits .v) (asked .before .if1 .left) in
     rw (a .1) (rw (a .0) at (c .before .before .put-decimal2 .ensures))
 
-pub put-signed-spec : {M : Type 1} → statement M
+pub put-signed-spec : {M : Type 1} → f.Statement.statement M
 put-signed-spec =
-    tie.close (tie.spec put-byte-requires cast-put-decimal add-put-decimal put-decimal-requires
-    cast-put-decimal-2 put-decimal-requires-2 (λ c. search needs) returns (λ c. search needs)
-    returns-2)
+    f.Tie.close (f.Tie.spec (λ c κs. omega (arith, ap length (below (c .before .before .before .fits .v) (c .before .if1 .taken) .1)))
+    (λ c. rw (minus c .0) (tt, record { fits = omega (arith, start c .fits .v) }))
+    (λ c. rw (minus c .0) (record { fits = omega (arith, start c .fits .v) })) (λ c κs. rw (minus c .0) (omega (arith, ap length (minus c .1))))
+    (λ c. rw (above (c .before .before .before .fits .v) (c .before .if1 .left) .0) (tt, record { fits = omega arith })) put-decimal-requires-2
+    (λ c. search needs) returns (λ c. search needs) returns-2)

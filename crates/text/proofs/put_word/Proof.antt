@@ -12,8 +12,7 @@ use lib.Seq.{take-suc, drop-cons, append-snoc, length-take-le}
 use Rattle.text.specs.Put.{Put}
 use Rattle.text.specs.Entry.{wordOf}
 use Rattle.text.proofs.Writing.{nothing, more}
-use Rattle.text.proofs.put_word.Statement.{statement}
-use Rattle.text.proofs.put_word.Tie as tie
+use Rattle.text.proofs.put_word as f
 
 -- i bytes of the text's word have been passed
 abbrev Passed : List ℕ → ℕ → Type 0
@@ -36,44 +35,36 @@ module _ (text : List ℕ) (i : ℕ) (passed : Passed text i) where
       ∙ rw (add-one i, take-suc text i 0 h, drop-cons text i 0 h)
       (simp (ne-eqb (getD text i 0) 32 e) (sym (append-snoc (take i text) (getD text i 0) (wordOf (drop (suc i) text)))))
 
-abbrev Inv-loop : tie.InvT-loop
+abbrev Inv-loop : f.Tie.InvT-loop
 Inv-loop out₀ at text i₀ out i = (i ≤ length text) × (length out ≡ length out₀) × Passed text i × Put out₀ at (take i text) (at + i) out
 
-abbrev μ-loop : tie.MeasureT-loop
+abbrev μ-loop : f.Tie.MeasureT-loop
 μ-loop out₀ at text i₀ out i = length text - i
 
-loop-holds : tie.Need-loop-holds Inv-loop μ-loop
-loop-holds c = (omega arith, refl, refl, record { ends = refl; holds = nothing _ _ })
-
-add-result : tie.Need-add-result Inv-loop μ-loop
+add-result : f.Tie.Need-add-result Inv-loop μ-loop
 add-result c =
     let now = c .before .before .before .loop in
     omega (arith, within _ (now .i) (now .inv .2) (now .inv .0))
 
-same-length : tie.Need-same-length Inv-loop μ-loop
-same-length c = c .before .before .before .loop .inv .1
-
-returns : tie.Need-returns Inv-loop μ-loop
+returns : f.Tie.Need-returns Inv-loop μ-loop
 returns c =
     let now = c .before .before .before .loop in
     rw (at-space _ (now .i) (now .inv .2) (omega arith) (c .if1 .taken)) at (now .inv .3)
 
-add-out : tie.Need-add-out Inv-loop μ-loop
+add-out : f.Tie.Need-add-out Inv-loop μ-loop
 add-out c =
     let now = c .before .before .before .loop in
     omega (arith, within _ (now .i) (now .inv .2) (now .inv .0))
 
 -- the place of the byte that a turn writes
-place : (c : tie.Else1 Inv-loop μ-loop) → c .before .before .before .before .args .at + c .before .before .before .loop .i < length (c .before .before .before .loop .out)
+place : (c : f.Tie.Else1 Inv-loop μ-loop) → c .before .before .before .before .args .at + c .before .before .before .loop .i < length
+    (c .before .before .before .loop .out)
 place c =
     let now = c .before .before .before .loop in
     let next = ahead _ (now .i) (now .inv .2) (omega arith) (c .if1 .left) in
     omega (arith, within _ (now .i + 1) next (omega arith))
 
-slice-write-out : tie.Need-slice-write-out Inv-loop μ-loop
-slice-write-out c = place c
-
-loop-again : tie.Need-loop-again Inv-loop μ-loop
+loop-again : f.Tie.Need-loop-again Inv-loop μ-loop
 loop-again c =
     let now = c .before .before .before .loop in (
       omega arith,
@@ -82,17 +73,9 @@ loop-again c =
       more _ (now .i) (now .inv .3) (omega arith) (place c),
     )
 
-add-result-2 : tie.Need-add-result-2 Inv-loop μ-loop
-add-result-2 c = omega (arith, within _ (c .before .loop .i) (c .before .loop .inv .2) (c .before .loop .inv .0))
-
-same-length-2 : tie.Need-same-length-2 Inv-loop μ-loop
-same-length-2 c = c .before .loop .inv .1
-
-returns-2 : tie.Need-returns-2 Inv-loop μ-loop
-returns-2 c = rw (at-end _ (c .before .loop .i) (c .before .loop .inv .2) (omega arith)) at (c .before .loop .inv .3)
-
-pub put-word-spec : {M : Type 1} → statement M
+pub put-word-spec : {M : Type 1} → f.Statement.statement M
 put-word-spec =
-    tie.close (tie.spec Inv-loop μ-loop loop-holds (search needs) add-result same-length returns
-    add-out slice-write-out (search needs) (search needs) loop-again add-result-2 same-length-2
-    returns-2)
+    f.Tie.close (f.Tie.spec Inv-loop μ-loop (λ c. (omega arith, refl, refl, record { ends = refl; holds = nothing _ _ })) (search needs) add-result
+    (λ c. c .before .before .before .loop .inv .1) returns add-out (λ c. place c) (search needs) (search needs) loop-again
+    (λ c. omega (arith, within _ (c .before .loop .i) (c .before .loop .inv .2) (c .before .loop .inv .0))) (λ c. c .before .loop .inv .1)
+    (λ c. rw (at-end _ (c .before .loop .i) (c .before .loop .inv .2) (omega arith)) at (c .before .loop .inv .3)))

@@ -8,11 +8,10 @@ use lib.Pow.{pow-mono}
 use Rattle.word.specs.Field.{field}
 use Rattle.word.specs.Layout.{joined, joined-small}
 use Rattle.word.proofs.One.{shifted-one}
-use Rattle.word.proofs.bits_then.Statement.{statement}
-use Rattle.word.proofs.bits_then.Tie as tie
+use Rattle.word.proofs.bits_then as f
 
 -- the upper bits, moved up, and the whole
-module _ (c : tie.After-bits) where
+module _ (c : f.Tie.After-bits) where
   abbrev j : ℕ
   j = c .before .args .hi - c .before .args .lo + 1
 
@@ -25,16 +24,9 @@ module _ (c : tie.After-bits) where
   within : joined (c .before .args .w) (c .before .args .lo) j (c .before .args .lo2) k < 2 ^ 16
   within = lt-of-lt-of-le (joined-small _ _ j _ k) (pow-mono {j = 16} (omega arith))
 
-mul-result : tie.Need-mul-result
-mul-result c = record { fits = rw (moved c) (omega (arith, within c)) }
-
-add-result-2 : tie.Need-add-result-2
-add-result-2 c = record { fits = rw (moved (c .before), c .bits2 .ensures) (omega (arith, within (c .before))) }
-
-returns : tie.Need-returns
-returns c = rw (moved (c .before), c .bits2 .ensures)
-
-pub bits-then-spec : {M : Type 1} → statement M
+pub bits-then-spec : {M : Type 1} → f.Statement.statement M
 bits-then-spec =
-    tie.close (tie.spec (search needs) (search needs) (search needs) (search needs) mul-result
-    (search needs) add-result-2 returns)
+    f.Tie.close (f.Tie.spec (search needs) (search needs) (search needs) (search needs)
+    (λ c. record { fits = rw (moved c) (omega (arith, within c)) }) (search needs)
+    (λ c. record { fits = rw (moved (c .before), c .bits2 .ensures) (omega (arith, within (c .before))) })
+    (λ c. rw (moved (c .before), c .bits2 .ensures)))

@@ -8,8 +8,7 @@ use lib.IntN.{pos, negsuc, negℤ, _-ℤ_}
 use mir.Syntax.{w64}
 use mir.Val.{SFits}
 use mir.ValLaws.{toZ-pos, toZ-ofZ}
-use Rattle.word.proofs.negative.Statement.{statement}
-use Rattle.word.proofs.negative.Tie as tie
+use Rattle.word.proofs.negative as f
 
 from-zero : (v : ℕ) → pos 0 -ℤ pos v ≡ negℤ (pos v)
 from-zero zero = refl
@@ -19,11 +18,8 @@ fits : (v : ℕ) → v < 2 ^ 32 → SFits w64 (negℤ (pos v))
 fits zero h = record { sfits = omega arith }
 fits (suc v) h = record { sfits = omega arith }
 
-sub-result : tie.Need-sub-result
-sub-result c = rw (toZ-pos w64 (c .args .v) (omega arith), from-zero (c .args .v)) (fits (c .args .v) (omega arith))
-
-returns : tie.Need-returns
-returns c = rw (toZ-pos w64 (c .args .v) (omega arith), from-zero (c .args .v)) (toZ-ofZ w64 _ (fits (c .args .v) (omega arith)))
-
-pub negative-spec : {M : Type 1} → statement M
-negative-spec = tie.close (tie.spec (search needs) sub-result returns)
+pub negative-spec : {M : Type 1} → f.Statement.statement M
+negative-spec =
+    f.Tie.close (f.Tie.spec (search needs)
+    (λ c. rw (toZ-pos w64 (c .args .v) (omega arith), from-zero (c .args .v)) (fits (c .args .v) (omega arith)))
+    (λ c. rw (toZ-pos w64 (c .args .v) (omega arith), from-zero (c .args .v)) (toZ-ofZ w64 _ (fits (c .args .v) (omega arith)))))

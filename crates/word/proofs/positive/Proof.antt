@@ -3,11 +3,7 @@ use borrow.Author.Needs.{needs}
 use native.Mathlib.Omega.{arith}
 use mir.Syntax.{w64}
 use mir.ValLaws.{toZ-pos}
-use Rattle.word.proofs.positive.Statement.{statement}
-use Rattle.word.proofs.positive.Tie as tie
+use Rattle.word.proofs.positive as f
 
-returns : tie.Need-returns
-returns c = toZ-pos w64 (c .args .v) (omega arith)
-
-pub positive-spec : {M : Type 1} → statement M
-positive-spec = tie.close (tie.spec (search needs) returns)
+pub positive-spec : {M : Type 1} → f.Statement.statement M
+positive-spec = f.Tie.close (f.Tie.spec (search needs) (λ c. toZ-pos w64 (c .args .v) (omega arith)))

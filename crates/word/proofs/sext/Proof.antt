@@ -9,8 +9,7 @@ use native.Mathlib.Omega.{arith}
 use lib.Pow.{pow-mono}
 use Rattle.word.specs.Signed.{sextOf}
 use Rattle.word.proofs.One.{shifted-one}
-use Rattle.word.proofs.sext.Statement.{statement}
-use Rattle.word.proofs.sext.Tie as tie
+use Rattle.word.proofs.sext as f
 
 -- two halves
 halves : (n : ℕ) → 0 < n → 2 ^ n ≡ 2 * 2 ^ (n - 1)
@@ -18,9 +17,6 @@ halves (suc n) h = rw sub-one (omega arith)
 
 half-le : (n : ℕ) → n < 32 → 2 ^ (n - 1) ≤ 2147483648
 half-le n h = pow-mono {j = 31} (omega arith)
-
-sub-result : tie.Need-sub-result
-sub-result c = rw (shifted-one (c .before .args .n - 1) (omega arith)) (half-le (c .before .args .n) (omega arith))
 
 -- what is left once the sign is known to be set, over the sign's weight h
 module _ (v n : ℕ) (some : 0 < n) (most : n < 32) (fits : v < 2 ^ n) (h : ℕ) (weight : h ≡ 2 ^ (n - 1)) (set : h ≤ v) where
@@ -33,26 +29,18 @@ module _ (v n : ℕ) (some : 0 < n) (most : n < 32) (fits : v < 2 ^ n) (h : ℕ)
   second : v - h + (2147483648 - h) + 2147483648 < 2 ^ 32
   second = omega (arith, halves n some, half-le n most)
 
-weighs : (c : tie.Else1) → (1 * 2 ^ (c .before .args .n - 1)) % 2 ^ 32 ≡ 2 ^ (c .before .args .n - 1)
+weighs : (c : f.Tie.Else1) → (1 * 2 ^ (c .before .args .n - 1)) % 2 ^ 32 ≡ 2 ^ (c .before .args .n - 1)
 weighs c = shifted-one (c .before .args .n - 1) (omega arith)
 
-add-result : tie.Need-add-result
-add-result c = record { fits = first _ _ (c .before .pre .0) (c .before .pre .1) (c .before .pre .2) _ (weighs c) (c .if1 .left) }
-
-add-result-2 : tie.Need-add-result-2
-add-result-2 c = record { fits = second _ _ (c .before .pre .0) (c .before .pre .1) (c .before .pre .2) _ (weighs c) (c .if1 .left) }
-
-returns : tie.Need-returns
-unfolding sextOf
-returns c = simp (lt-ltb _ _ (rw (shifted-one (c .before .args .n - 1) (omega arith)) at (c .if1 .taken)))
-
-returns-2 : tie.Need-returns-2
-unfolding sextOf
-returns-2 c =
+returns-2 : f.Tie.Need-returns-2
+returns-2 c = unfold sextOf in
     simp (le-ltb _ _ (rw (weighs c) at (c .if1 .left)))
     (widened _ _ (c .before .pre .0) (c .before .pre .1) (c .before .pre .2) _ (weighs c) (c .if1 .left))
 
-pub sext-spec : {M : Type 1} → statement M
+pub sext-spec : {M : Type 1} → f.Statement.statement M
 sext-spec =
-    tie.close (tie.spec (search needs) (search needs) sub-result add-result add-result-2 returns
-    returns-2)
+    f.Tie.close (f.Tie.spec (search needs) (search needs)
+    (λ c. rw (shifted-one (c .before .args .n - 1) (omega arith)) (half-le (c .before .args .n) (omega arith)))
+    (λ c. record { fits = first _ _ (c .before .pre .0) (c .before .pre .1) (c .before .pre .2) _ (weighs c) (c .if1 .left) })
+    (λ c. record { fits = second _ _ (c .before .pre .0) (c .before .pre .1) (c .before .pre .2) _ (weighs c) (c .if1 .left) })
+    (λ c. unfold sextOf in simp (lt-ltb _ _ (rw (shifted-one (c .before .args .n - 1) (omega arith)) at (c .if1 .taken)))) returns-2)

@@ -3,12 +3,7 @@ use mathlib.Core.Path.{_∙_}
 use borrow.Author.Needs.{needs}
 use native.Mathlib.Nat.{mod-add-mod}
 use Rattle.word.specs.Signed.{targetOf}
-use Rattle.word.proofs.target.Statement.{statement}
-use Rattle.word.proofs.target.Tie as tie
+use Rattle.word.proofs.target as f
 
-returns : tie.Need-returns
-unfolding targetOf
-returns c = c .wrapping-add-u32 .ensures ∙ simp mod-add-mod
-
-pub target-spec : {M : Type 1} → statement M
-target-spec = tie.close (tie.spec (search needs) (search needs) returns)
+pub target-spec : {M : Type 1} → f.Statement.statement M
+target-spec = f.Tie.close (f.Tie.spec (search needs) (search needs) (λ c. unfold targetOf in c .wrapping-add-u32 .ensures ∙ simp mod-add-mod))

@@ -1,0 +1,91 @@
+-- What is shown of each group of rows, and how its proofs go by cases. Assumes nothing.
+use mathlib.Core.Path.{_≡_, refl, ap, sym, _∙_, subst}
+use mathlib.Core.Bool.{Bool, true, false}
+use mathlib.Core.List.{List, []}
+use Prim.Native.Nat.{ℕ, zero, suc, Ordering, compare·suc-zero}
+use native.Mathlib.Omega.{arith}
+use borrow.Author.Tests.{eqb-true, eqb-false, ltb-true, leb-true, le-leb, lt-leb}
+use lib.Dec.{T, eqb, leb, ltb, isEq}
+use lib.IntN.{natAbs}
+use Rattle.word.specs.Choice.{by-test}
+use Rattle.word.specs.Field.{field, small, put-above, put-below, put-at}
+use Rattle.word.specs.Signed.{minus}
+use Rattle.insn.specs.declared.Decoded.{Decoded}
+use Rattle.encode_home.specs.Table.{Put}
+use Rattle.encode_home.specs.Home.{putsOf, putAll}
+use Rattle.encode_home.specs.Word.{wordOf}
+use Rattle.encode_home.proofs.Puts.{all}
+
+-- what a put leaves of the other fields, and of its own
+pub ruleset apart = (put-above, put-below, put-at)
+
+-- an accepted answer of w: these are its puts, and it leads back to w with them put in
+abbrev pub Back : List Put → ℕ → Decoded → Type 0
+Back ps w d = (d .refusal ≡ 0) × (putsOf (d .insn) ≡ ps) × (wordOf (d .insn) ≡ putAll ps w)
+
+-- a word of a group is refused at every address; or it is accepted at every address, and with its puts, which are near, it has the same answer
+pub data Settles (near : Put → Bool) (of : ℕ → ℕ → Decoded) (w : ℕ) : Type 0 where
+  refuses : ((addr : ℕ) → (of w addr) .refusal ≡ 0 → ⊥) → Settles near of w
+  settles : (ps : List Put) → T (all near ps) → ((addr : ℕ) → (of (putAll ps w) addr ≡ of w addr) × Back ps w (of w addr)) → Settles near of w
+
+-- by a row that ignores nothing
+pub reads : {near : Put → Bool} {of : ℕ → ℕ → Decoded} {w : ℕ} → ((addr : ℕ) → Back [] w (of w addr)) → Settles near of w
+reads back = settles [] tt (λ addr. (refl, back addr))
+
+-- by the rows that tests lead to, with the puts and without
+pub leads-to : {near : Put → Bool} {of of′ : ℕ → ℕ → Decoded} {w : ℕ} → Settles near of′ w
+    → ((ps : List Put) → T (all near ps) → (addr : ℕ) → of (putAll ps w) addr ≡ of′ (putAll ps w) addr) → Settles near of w
+leads-to (refuses never-ok) to = refuses (λ addr ok. never-ok addr (subst (λ (d : Decoded). d .refusal ≡ 0) (to [] tt addr) ok))
+leads-to {w = w} (settles ps t given) to =
+    settles ps t
+    (λ addr. (to ps t addr ∙ given addr .0 ∙ sym (to [] tt addr), subst (λ (d : Decoded). Back ps w d) (sym (to [] tt addr)) (given addr .1)))
+
+-- by whether a field has a value
+pub by-value {ℓ} : {A : Type ℓ} (w lo k n : ℕ) → (field w lo k ≡ n → A) → (eqb (field w lo k) n ≡ false → A) → A
+by-value w lo k n is other = by-test (eqb (field w lo k) n) (λ e. is (eqb-true _ n e)) other
+
+-- a bit is set or clear
+pub set-bit : (w n : ℕ) → eqb (field w n 1) 0 ≡ false → field w n 1 ≡ 1
+set-bit w n e = from (eqb-false (field w n 1) 0 e)
+  where
+    from : (field w n 1 ≡ 0 → ⊥) → field w n 1 ≡ 1
+    from h = omega (arith, small w n 1)
+
+pub bit-cases {ℓ} : {A : Type ℓ} (w n : ℕ) → (field w n 1 ≡ 0 → A) → (field w n 1 ≡ 1 → A) → A
+bit-cases w n off on = by-value w n 1 0 off (λ e. on (set-bit w n e))
+
+-- and not both
+pub never {ℓ} : {A : Type ℓ} {n : ℕ} → n ≡ 0 → n ≡ 1 → A
+never off on = absurd (eqb-false 0 1 refl (sym off ∙ on))
+
+-- a displacement without its sign
+pub magnitude : (n : ℕ) → natAbs (minus n) ≡ n
+magnitude zero = refl
+magnitude (suc n) = refl
+
+-- an answer that is refused is not accepted
+pub refusal {ℓ} : {A : Type ℓ} {n : ℕ} → suc n ≡ 0 → A
+refusal {n = n} h = absurd (eqb-false (suc n) 0 (ap (λ (o : Ordering). isEq o) (compare·suc-zero n)) h)
+
+-- a field of two bits, value by value
+pub two-cases {ℓ} : {A : Type ℓ} (w lo : ℕ) → (field w lo 2 ≡ 0 → A) → (field w lo 2 ≡ 1 → A) → (field w lo 2 ≡ 2 → A) → (field w lo 2 ≡ 3 → A) → A
+two-cases w lo a b c d =
+    by-value w lo 2 0 a λ n0. by-value w lo 2 1 b λ n1. by-value w lo 2 2 c λ n2.
+    d (last (eqb-false _ 0 n0) (eqb-false _ 1 n1) (eqb-false _ 2 n2))
+  where
+    last : (field w lo 2 ≡ 0 → ⊥) → (field w lo 2 ≡ 1 → ⊥) → (field w lo 2 ≡ 2 → ⊥) → field w lo 2 ≡ 3
+    last x y z = omega (arith, small w lo 2)
+
+-- a number from lo to hi, against another
+module _ (lo hi n : ℕ) (from : leb lo n ≡ true) (to : leb n hi ≡ true) where
+  pub starts : (k : ℕ) → leb k lo ≡ true → leb k n ≡ true
+  starts k h = le-leb k n (omega (arith, leb-true k lo h, leb-true lo n from))
+
+  pub ends : (k : ℕ) → leb hi k ≡ true → leb n k ≡ true
+  ends k h = le-leb n k (omega (arith, leb-true hi k h, leb-true n hi to))
+
+  pub over : (k : ℕ) → ltb k lo ≡ true → leb n k ≡ false
+  over k h = lt-leb n k (omega (arith, ltb-true k lo h, leb-true lo n from))
+
+  pub under : (k : ℕ) → ltb hi k ≡ true → leb k n ≡ false
+  under k h = lt-leb k n (omega (arith, ltb-true hi k h, leb-true n hi to))

@@ -1,9 +1,0 @@
--- Facts of the crate: the groups in A5's order, and the theorem.
-pub mod DpImmediate
-pub mod Extra
-pub mod LoadStore
-pub mod Media
-pub mod Targets
-pub mod Transfers
-pub mod Unconditional
-pub mod Follows

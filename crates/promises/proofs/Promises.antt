@@ -1,0 +1,300 @@
+-- What is promised, on one page, of the contracts that the code is proved to meet: that every input is taken without fault, that the decoder follows
+-- the manual, that different work has different answers, and what stands beside these. Each statement is proved in a line or two from those that
+-- docs/THEOREMS.md lists. Assumes nothing.
+use mathlib.Core.Path.{_≡_, sym, _∙_}
+use mathlib.Core.Bool.{true, false}
+use mathlib.Core.List.{List, _++_}
+use mathlib.Core.Logic.{_↔_}
+use Prim.Native.Nat.{ℕ, _^_, _<_, _≤_}
+use borrow.Author.Tests.{ne-eqb, lt-ltb, le-ltb}
+use base.Fml.{Lft}
+use denote.Ref.{RefT, now}
+use lib.ListN.{length, drop}
+use Rattle.word.specs.Bytes.{wordAt}
+use Rattle.word.specs.Field.{field}
+use Rattle.insn.specs.Answer.{accepted, refused}
+use Rattle.insn.specs.declared.Decoded.{Decoded}
+use Rattle.insn.specs.declared.Insn.{Insn}
+use Rattle.a32.specs.Decode.{decodeOf, decodeBytesOf}
+use Rattle.a32.proofs.Groups.{Below}
+use Rattle.encode_home.specs.Home.{homeOf}
+use Rattle.encode_home.specs.Alike.{Alike}
+use Rattle.encode.specs.declared.Encoded.{Encoded}
+use Rattle.word_packed.specs.Packed.{packed}
+use Rattle.section.specs.Section.{refusalOf}
+use Rattle.section.specs.declared.Opened.{Opened}
+use Rattle.text.specs.declared.Written.{Written}
+use Rattle.line_spelling.specs.Line.{answerText, lineText}
+use Rattle.listing_text.specs.Listing.{listingOf}
+use Rattle.promises_predicated.specs.Predicated.{under}
+use Rattle.manual.specs.A5.{tableRow}
+use Rattle.manual.specs.Stands.{Stands, inRange}
+use Rattle.insn_row.specs.Row.{rowOf}
+use Rattle.brassdozen.specs.Given.{Answers}
+use Rattle.a32.proofs.decode as decode
+use Rattle.a32.proofs.decode_bytes as decode-bytes
+use Rattle.encode.proofs.encode as encode
+use Rattle.encode.proofs.home as home
+use Rattle.section.proofs.open as open-section
+use Rattle.line.proofs.line as line
+use Rattle.listing_text.proofs.listing as listing
+use Rattle.brassdozen.proofs.brassdozen_version as c-version
+use Rattle.brassdozen.proofs.brassdozen_decode as c-decode
+use Rattle.brassdozen.proofs.brassdozen_decode_bytes as c-decode-bytes
+use Rattle.brassdozen.proofs.brassdozen_encode as c-encode
+use Rattle.brassdozen.proofs.brassdozen_home as c-home
+use Rattle.brassdozen.proofs.brassdozen_line as c-line
+use Rattle.brassdozen.proofs.brassdozen_listing as c-listing
+use Rattle.a32.proofs.Elsewhere as Elsewhere
+use Rattle.encode_home.proofs.Same as Same
+use Rattle.encode.proofs.Encodes as Encodes
+use Rattle.section.proofs.Accepted as Accepted
+use Rattle.manual_follows.proofs.Follows as Follows
+use Rattle.promises_differ.proofs.Alike as Differ
+use Rattle.promises_predicated.proofs.ReadOnce as ReadOnce
+use Rattle.line_spelling.proofs.Fits as Fits
+use Rattle.listing_text.proofs.Enough as Enough
+use Rattle.brassdozen.proofs.Back as Back
+use Rattle.brassdozen.proofs.Exactly as Exactly
+use Rattle.promises.proofs.Refusals as Refusals
+use Rattle.promises.proofs.Left as Left
+
+-- a word has 32 bits
+abbrev Word : ℕ → Type 0
+Word w = w < 2 ^ 32
+
+-- what is lent: `now` is what stands in it
+abbrev Slice : Type 0
+Slice = RefT (List ℕ)
+
+-- an answer that is no refusal
+abbrev Accepts : Decoded → Type 0
+Accepts d = d .refusal ≡ 0
+
+-- a function meets its contract: it is safe, ends, and gives and leaves what the contract says; and it asks nothing of its input
+abbrev Taken : (Type 1 → Type 2) → {K : Type 0} {A : K → Type 0} → ((κs : K) → A κs → Type 0) → Type 2
+Taken statement Asked = ((M : Type 1) → statement M) × ((κs : _) (a : _) → Asked κs a)
+
+-- a text is written: its length is given, it stands at the buffer's start, and what is after it stays; or it is longer than the buffer,
+-- 10 is given, and every byte stays
+abbrev Puts : {A : Type 0} → (ℕ → ℕ → A) → (text before : List ℕ) → A → (after : List ℕ) → Type 0
+Puts gives text before r after =
+    (length text ≤ length before → (r ≡ gives 0 (length text)) × (after ≡ text ++ drop (length text) before))
+    × (length before < length text → (r ≡ gives 10 0) × (after ≡ before))
+
+abbrev given : ℕ → ℕ → Written
+given n len = record { refusal = n; len = len }
+
+-- the row of an accepted answer is written so, and its refusal alone given; another answer's refusal is given, and every number stays
+abbrev PutsRow : Decoded → (before : List ℕ) → ℕ → (after : List ℕ) → Type 0
+PutsRow d before r after =
+    (Accepts d → Puts (λ n len. n) (rowOf (d .insn)) before r after)
+    × ((Accepts d → ⊥) → (r ≡ d .refusal) × (after ≡ before))
+
+-- The contracts as relations: of what a function is given, what it gives and, of a buffer that it is lent, what it leaves there. `Post` is the
+-- contract as the check reads it from the source. κ and κ′ are the lifetimes of what is lent, whatever they are.
+module _ (κ κ′ : Lft) where
+  abbrev Decodes : (w addr : ℕ) → Decoded → Type 0
+  Decodes w addr d = decode.Reads.Post tt (w, (addr, tt)) d (w, (addr, tt))
+
+  abbrev DecodesBytes : (bytes : Slice) (addr : ℕ) → Decoded → Type 0
+  DecodesBytes bytes addr d = decode-bytes.Reads.Post (κ, tt) (bytes, (addr, tt)) d (bytes, (addr, tt))
+
+  abbrev EncodesTo : Insn → Encoded → Type 0
+  EncodesTo i e = encode.Reads.Post tt (i, tt) e (i, tt)
+
+  abbrev HasHome : (w : ℕ) → Encoded → Type 0
+  HasHome w h = home.Reads.Post tt (w, tt) h (w, tt)
+
+  abbrev Opens : (bytes : Slice) → Opened → Type 0
+  Opens bytes o = open-section.Reads.Post (κ, tt) (bytes, tt) o (bytes, tt)
+
+  abbrev WritesLine : (addr w : ℕ) (out : Slice) → Written → (out′ : Slice) → Type 0
+  WritesLine addr w out r out′ = line.Reads.Post (κ, tt) (addr, (w, (out, tt))) r (addr, (w, (out′, tt)))
+
+  abbrev WritesListing : (section out : Slice) → Written → (out′ : Slice) → Type 0
+  WritesListing section out r out′ = listing.Reads.Post (κ, (κ′, tt)) (section, (out, tt)) r (section, (out′, tt))
+
+  -- and those for C and Rust
+
+  abbrev DecodesToRow : (w addr : ℕ) (row : Slice) → ℕ → (row′ : Slice) → Type 0
+  DecodesToRow w addr row n row′ = c-decode.Reads.Post (κ, tt) (w, (addr, (row, tt))) n (w, (addr, (row′, tt)))
+
+  abbrev DecodesBytesToRow : (bytes : Slice) (addr : ℕ) (row : Slice) → ℕ → (row′ : Slice) → Type 0
+  DecodesBytesToRow bytes addr row n row′ = c-decode-bytes.Reads.Post (κ, (κ′, tt)) (bytes, (addr, (row, tt))) n (bytes, (addr, (row′, tt)))
+
+  abbrev EncodesRow : (row : Slice) → ℕ → Type 0
+  EncodesRow row p = c-encode.Reads.Post (κ, tt) (row, tt) p (row, tt)
+
+  abbrev HasHomeForC : (w : ℕ) → ℕ → Type 0
+  HasHomeForC w p = c-home.Reads.Post tt (w, tt) p (w, tt)
+
+  abbrev WritesLineForC : (addr w : ℕ) (out : Slice) → ℕ → (out′ : Slice) → Type 0
+  WritesLineForC addr w out p out′ = c-line.Reads.Post (κ, tt) (addr, (w, (out, tt))) p (addr, (w, (out′, tt)))
+
+  abbrev WritesListingForC : (section out : Slice) → ℕ → (out′ : Slice) → Type 0
+  WritesListingForC section out p out′ = c-listing.Reads.Post (κ, (κ′, tt)) (section, (out, tt)) p (section, (out′, tt))
+
+  -- 1. Taken without fault.
+
+  -- Every function takes every input.
+  pub taken :
+      Taken decode.Statement.statement decode.Reads.Asked
+      × Taken decode-bytes.Statement.statement decode-bytes.Reads.Asked
+      × Taken encode.Statement.statement encode.Reads.Asked
+      × Taken home.Statement.statement home.Reads.Asked
+      × Taken open-section.Statement.statement open-section.Reads.Asked
+      × Taken line.Statement.statement line.Reads.Asked
+      × Taken listing.Statement.statement listing.Reads.Asked
+      × Taken c-version.Statement.statement c-version.Reads.Asked
+      × Taken c-decode.Statement.statement c-decode.Reads.Asked
+      × Taken c-decode-bytes.Statement.statement c-decode-bytes.Reads.Asked
+      × Taken c-encode.Statement.statement c-encode.Reads.Asked
+      × Taken c-home.Statement.statement c-home.Reads.Asked
+      × Taken c-line.Statement.statement c-line.Reads.Asked
+      × Taken c-listing.Statement.statement c-listing.Reads.Asked
+  taken = (
+    (λ M. decode.Met.met, λ κs a. tt),
+    (λ M. decode-bytes.Met.met, λ κs a. tt),
+    (λ M. encode.Met.met, λ κs a. tt),
+    (λ M. home.Met.met, λ κs a. tt),
+    (λ M. open-section.Met.met, λ κs a. tt),
+    (λ M. line.Met.met, λ κs a. tt),
+    (λ M. listing.Met.met, λ κs a. tt),
+    (λ M. c-version.Met.met, λ κs a. tt),
+    (λ M. c-decode.Met.met, λ κs a. tt),
+    (λ M. c-decode-bytes.Met.met, λ κs a. tt),
+    (λ M. c-encode.Met.met, λ κs a. tt),
+    (λ M. c-home.Met.met, λ κs a. tt),
+    (λ M. c-line.Met.met, λ κs a. tt),
+    (λ M. c-listing.Met.met, λ κs a. tt),
+  )
+
+  -- Fewer than four bytes are refused with 1; of more, the first four are decoded, low byte first.
+  pub too-few-bytes : (bytes : Slice) (addr : ℕ) (d : Decoded) → DecodesBytes bytes addr d → length (now bytes) < 4 → d ≡ refused 1
+  too-few-bytes bytes addr d is few = is ∙ simp (lt-ltb _ _ few)
+
+  pub enough-bytes : (bytes : Slice) (addr : ℕ) (d : Decoded) → DecodesBytes bytes addr d → 4 ≤ length (now bytes)
+      → Decodes (wordAt (now bytes) 0) addr d
+  enough-bytes bytes addr d is four = is ∙ simp (le-ltb _ _ four)
+
+  -- A word with a condition below 15 and 27:26 = 11 is refused with 2, and any other that is not accepted with 3.
+  pub out-of-scope : (w addr : ℕ) (d : Decoded) → Decodes w addr d → inRange w ≡ false → d ≡ refused 2
+  out-of-scope w addr d is out = is ∙ Refusals.refused-out w addr out
+
+  pub no-row : (w addr : ℕ) (d : Decoded) → Decodes w addr d → inRange w ≡ true → (Accepts d → ⊥) → d ≡ refused 3
+  no-row w addr d is range bad = is ∙ Refusals.refused-within w addr range (λ ok. bad (rw is ok))
+
+  -- A section is refused with the number of the first of document 01's checks that fails.
+  pub refused-section : (bytes : Slice) (o : Opened) → Opens bytes o → o .refusal ≡ refusalOf (now bytes)
+  refused-section bytes o is = rw is (Accepted.same-refusal (now bytes))
+
+  -- A line and a listing are written, or refused with 10, and then no byte is changed.
+  pub writes-line : (addr w : ℕ) (out out′ : Slice) (d : Decoded) (r : Written) → Decodes w addr d → WritesLine addr w out r out′
+      → Puts given (lineText addr w d) (now out) r (now out′)
+  writes-line addr w out out′ d r is wrote = rw (wrote .0, wrote .1, is) (Left.puts given _ _)
+
+  pub writes-listing : (section out out′ : Slice) (r : Written) → WritesListing section out r out′
+      → Puts given (listingOf (now section)) (now out) r (now out′)
+  writes-listing section out out′ r wrote = rw (wrote .0, wrote .1) (Left.puts given _ _)
+
+  -- So they are for C and Rust, with the refusal's number above the length.
+  pub writes-line-for-c : (addr w : ℕ) (out out′ : Slice) (d : Decoded) (p : ℕ) → Decodes w addr d → WritesLineForC addr w out p out′
+      → Puts packed (lineText addr w d) (now out) p (now out′)
+  writes-line-for-c addr w out out′ d p is wrote = rw (wrote .0, wrote .1, is) (Left.puts packed _ _)
+
+  pub writes-listing-for-c : (section out out′ : Slice) (p : ℕ) → WritesListingForC section out p out′
+      → Puts packed (listingOf (now section)) (now out) p (now out′)
+  writes-listing-for-c section out out′ p wrote = rw (wrote .0, wrote .1) (Left.puts packed _ _)
+
+  -- So is the row of an accepted word; of a word that is refused its number is given, and no number of what is lent is changed.
+  pub writes-row : (w addr : ℕ) (row row′ : Slice) (d : Decoded) (n : ℕ) → Decodes w addr d → DecodesToRow w addr row n row′
+      → PutsRow d (now row) n (now row′)
+  writes-row w addr row row′ d n is wrote = rw (wrote .0, wrote .1, is) (Left.puts-row (decodeOf w addr) (now row))
+
+  pub writes-row-of-bytes : (bytes : Slice) (addr : ℕ) (row row′ : Slice) (d : Decoded) (n : ℕ) → DecodesBytes bytes addr d
+      → DecodesBytesToRow bytes addr row n row′
+      → PutsRow d (now row) n (now row′)
+  writes-row-of-bytes bytes addr row row′ d n is wrote = rw (wrote .0, wrote .1, is) (Left.puts-row (decodeBytesOf (now bytes) addr) (now row))
+
+  -- 2. As the manual.
+
+  -- The answer is the one on paper: that of the row of document 01 that the word belongs to.
+  pub as-written : (w addr : ℕ) (d : Decoded) → Decodes w addr d → d ≡ decodeOf w addr
+  as-written w addr d is = is
+
+  -- On every word with condition 15, or with 27:26 other than 11, at every address, the answer is what the definition from the manual says, or a
+  -- departure covers the word and tells the answer.
+  pub follows-the-manual : (w addr : ℕ) (d : Decoded) → Decodes w addr d → inRange w ≡ true → Stands (tableRow w) w addr d
+  follows-the-manual w addr d is range = rw is (Follows.follows-the-manual w addr range)
+
+  -- The encoder turns an answer back into a word with that same answer.
+  pub and-back : (w addr : ℕ) (d : Decoded) (e : Encoded) → Word w → Decodes w addr d → Accepts d → EncodesTo (d .insn) e → Decodes (e .word) addr d
+  and-back w addr d e bound is ok to = is ∙ sym (rw (to, is, Encodes.encodes-home w addr bound (rw (← is) ok)) (Same.home-decodes w addr bound))
+
+  -- 3. Different work, different answers.
+
+  -- At one address two accepted words get equal answers exactly if the table of ignored bits gives them one home word.
+  pub same-answer : (w v addr : ℕ) (d d′ : Decoded) → Word w → Word v → Decodes w addr d → Decodes v addr d′ → Accepts d → Accepts d′
+      → (d ≡ d′) ↔ (homeOf w ≡ homeOf v)
+  same-answer w v addr d d′ bound bound′ is is′ ok ok′ = rw (is, is′) (Same.same-answer w v addr bound bound′ (rw (← is) ok) (rw (← is′) ok′))
+
+  -- Encoding an answer gives that home word.
+  pub encodes-home : (w addr : ℕ) (d : Decoded) (e : Encoded) → Word w → Decodes w addr d → Accepts d → EncodesTo (d .insn) e
+      → e ≡ record { refusal = 0; word = homeOf w }
+  encodes-home w addr d e bound is ok to = rw (to, is) (Encodes.encodes-home w addr bound (rw (← is) ok))
+
+  -- So does `home`; of a refused word it gives the refusal.
+  pub home-word : (w addr : ℕ) (d : Decoded) (h : Encoded) → Decodes w addr d → HasHome w h
+      → (Accepts d → h ≡ record { refusal = 0; word = homeOf w }) × ((Accepts d → ⊥) → h ≡ record { refusal = d .refusal; word = 0 })
+  home-word w addr d h is has =
+      (λ ok. has ∙ simp (at-zero, ok), λ refused. has ∙ simp (at-zero, ne-eqb (d .refusal) 0 refused))
+    where
+      at-zero : (decodeOf w 0) .refusal ≡ d .refusal
+      at-zero = rw is (Elsewhere.refused-anywhere w 0 addr)
+
+  pub home-word-for-c : (w p : ℕ) (h : Encoded) → HasHome w h → HasHomeForC w p → p ≡ packed (h .refusal) (h .word)
+  home-word-for-c w p h has is = rw has is
+
+  -- An instruction value is refused, with 4, exactly if no word decodes to it at its address; and else a word that does is given.
+  pub refuses-exactly : (i : Insn) (e : Encoded) → EncodesTo i e → (e .refusal ≡ 4) ↔ ((w : ℕ) → Word w → Decodes w (i .addr) (accepted i) → ⊥)
+  refuses-exactly i e to =
+      let exactly = Encodes.refuses-exactly i in
+      rw to (λ four w bound has. exactly .0 four w bound (sym has), λ none. exactly .1 (λ w bound has. none w bound (sym has)))
+
+  pub gives : (i : Insn) (e : Encoded) → EncodesTo i e → e .refusal ≡ 0 → Decodes (e .word) (i .addr) (accepted i)
+  gives i e to ok = sym (rw to (Encodes.gives i (rw (← to) ok)))
+
+  -- Beside them.
+
+  -- A word is refused at every address or at none, with one number.
+  pub refused-anywhere : (w a b : ℕ) (d d′ : Decoded) → Decodes w a d → Decodes w b d′ → d .refusal ≡ d′ .refusal
+  refused-anywhere w a b d d′ is is′ = rw (is, is′) (Elsewhere.refused-anywhere w a b)
+
+  -- Conditional code is read once: of two words that differ in a condition below 15 alone, the answer to one is that to the other, under its own
+  -- condition.
+  pub read-once : (w v addr : ℕ) (d d′ : Decoded) → Alike w v → Below w → Below v → Decodes w addr d → Decodes v addr d′ → d′ ≡ under (field v 28 4) d
+  read-once w v addr d d′ alike below below′ is is′ = rw (is, is′) (ReadOnce.read-once w v addr alike below below′)
+
+  -- Two accepted words read alike, from the name on, exactly if they have one home word.
+  pub reads-alike : (w v addr : ℕ) (d d′ : Decoded) → Word w → Word v → Decodes w addr d → Decodes v addr d′ → Accepts d → Accepts d′
+      → (answerText d ≡ answerText d′) ↔ (homeOf w ≡ homeOf v)
+  reads-alike w v addr d d′ bound bound′ is is′ ok ok′ = rw (is, is′) (Differ.reads-alike w v addr bound bound′ (rw (← is) ok) (rw (← is′) ok′))
+
+  -- 96 bytes take any line, and 393,280 any listing.
+  pub line-fits : (addr w : ℕ) (d : Decoded) → Decodes w addr d → length (lineText addr w d) ≤ 96
+  line-fits addr w d is = rw is (Fits.line-fits addr w)
+
+  pub listing-fits : (section : List ℕ) → length (listingOf section) ≤ 393280
+  listing-fits section = Enough.listing-fits section
+
+  -- A row of numbers is refused, with 4, exactly if no word's answer at the row's address has it; and else the home word of each that has is given.
+  pub row-refused-exactly : (row : Slice) (p : ℕ) → EncodesRow row p → (p ≡ packed 4 0) ↔ ((w : ℕ) → Word w → Answers w (now row) → ⊥)
+  row-refused-exactly row p is = rw is (Exactly.encodes-exactly (now row) .0)
+
+  pub row-gives-home : (row : Slice) (p w : ℕ) → EncodesRow row p → Word w → Answers w (now row) → p ≡ packed 0 (homeOf w)
+  row-gives-home row p w is bound has = is ∙ Exactly.encodes-exactly (now row) .1 w bound has
+
+  -- The row that decoding writes encodes to the word's home word.
+  pub row-back : (w addr : ℕ) (row row′ : Slice) (p : ℕ) → Word w → DecodesToRow w addr row 0 row′ → EncodesRow row′ p → p ≡ packed 0 (homeOf w)
+  row-back w addr row row′ p bound is to = to ∙ rw (is .1) (Back.goes-home w addr (now row) bound (sym (is .0)))

@@ -1,8 +1,0 @@
--- What is given back of an answer, from the answer as the specification names it. Assumes nothing.
-use mathlib.Core.Path.{_≡_, ap, _∙_}
-use Prim.Native.Nat.{ℕ}
-use Rattle.insn.specs.declared.Decoded.{Decoded}
-use Rattle.trip.specs.Trip.{backOf}
-
-pub from : {d d′ : Decoded} {r : ℕ} → d ≡ d′ → r ≡ backOf d → r ≡ backOf d′
-from at-d is = is ∙ ap backOf at-d

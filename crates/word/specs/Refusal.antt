@@ -1,0 +1,42 @@
+-- 01, "Refusal numbers": what each is given for; 0 is none.
+use Prim.Native.Nat.{ℕ}
+
+-- "decoding bytes, fewer than 4"
+abbrev pub SHORT : ℕ
+SHORT = 1
+
+-- "condition below 15 and bits 27:26 = 11"
+abbrev pub COPROCESSOR : ℕ
+COPROCESSOR = 2
+
+-- "any other word no row accepts"
+abbrev pub NO_ROW : ℕ
+NO_ROW = 3
+
+-- "encoding, no word has this answer"
+abbrev pub NO_WORD : ℕ
+NO_WORD = 4
+
+-- "section mark not `RSX`"
+abbrev pub BAD_MARK : ℕ
+BAD_MARK = 5
+
+-- "section version not 1"
+abbrev pub BAD_VERSION : ℕ
+BAD_VERSION = 6
+
+-- "section shorter than 9 bytes, or its words not a multiple of 4 bytes"
+abbrev pub BAD_LENGTH : ℕ
+BAD_LENGTH = 7
+
+-- "more than 4,096 words"
+abbrev pub TOO_MANY_WORDS : ℕ
+TOO_MANY_WORDS = 8
+
+-- "base not a multiple of 4, or base + 4 x words above 2^32"
+abbrev pub BAD_BASE : ℕ
+BAD_BASE = 9
+
+-- "line longer than the lent buffer"
+abbrev pub NO_ROOM : ℕ
+NO_ROOM = 10

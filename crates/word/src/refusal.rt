@@ -1,0 +1,31 @@
+//! The numbers of refusals, by what they are given for.
+
+/// Decoding bytes, fewer than 4.
+pub const SHORT: u8 = 1;
+
+/// Condition below 15 and bits 27:26 = 11.
+pub const COPROCESSOR: u8 = 2;
+
+/// Any other word no row accepts.
+pub const NO_ROW: u8 = 3;
+
+/// Encoding, no word has this answer.
+pub const NO_WORD: u8 = 4;
+
+/// Section mark not `RSX`.
+pub const BAD_MARK: u8 = 5;
+
+/// Section version not 1.
+pub const BAD_VERSION: u8 = 6;
+
+/// Section shorter than 9 bytes, or its words not a multiple of 4 bytes.
+pub const BAD_LENGTH: u8 = 7;
+
+/// More than 4,096 words.
+pub const TOO_MANY_WORDS: u8 = 8;
+
+/// Base not a multiple of 4, or base + 4 x words above 2^32.
+pub const BAD_BASE: u8 = 9;
+
+/// Line longer than the lent buffer.
+pub const NO_ROOM: u8 = 10;
