@@ -9,11 +9,11 @@ SHORT = 1
 abbrev pub COPROCESSOR : ℕ
 COPROCESSOR = 2
 
--- "any other word no row accepts"
+-- "any other word no row below accepts"
 abbrev pub NO_ROW : ℕ
 NO_ROW = 3
 
--- "encoding, no word has this answer"
+-- "encoding, no word in demand 2's range has this answer"
 abbrev pub NO_WORD : ℕ
 NO_WORD = 4
 
