@@ -16,7 +16,7 @@ use Rattle.insn.specs.declared.Insn.{Insn}
 use Rattle.a32.specs.Decode.{decodeOf}
 use Rattle.encode_home.specs.Home.{homeOf}
 use Rattle.encode_home.specs.Word.{wordOf}
-use Rattle.a32.proofs.Elsewhere.{keeps-address}
+use Rattle.a32_elsewhere.proofs.Elsewhere.{keeps-address}
 use Rattle.encode_home.proofs.Same.{leads-home, same-answer}
 use Rattle.insn_value.specs.Value.{insnFrom}
 use Rattle.word_packed.specs.Packed.{packed}

@@ -13,7 +13,7 @@ use Rattle.insn.specs.Answer.{accepted}
 use Rattle.insn.specs.declared.Decoded.{Decoded}
 use Rattle.insn.specs.declared.Insn.{Insn}
 use Rattle.a32.specs.Decode.{decodeOf}
-use Rattle.a32.proofs.Elsewhere.{keeps-address}
+use Rattle.a32_elsewhere.proofs.Elsewhere.{keeps-address}
 use Rattle.encode_home.specs.Home.{homeOf}
 use Rattle.encode_home.specs.Word.{wordOf}
 use Rattle.encode_home.proofs.Leads.{refusal}

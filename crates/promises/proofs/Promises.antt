@@ -45,7 +45,7 @@ use Rattle.brassdozen.proofs.brassdozen_encode as c-encode
 use Rattle.brassdozen.proofs.brassdozen_home as c-home
 use Rattle.brassdozen.proofs.brassdozen_line as c-line
 use Rattle.brassdozen.proofs.brassdozen_listing as c-listing
-use Rattle.a32.proofs.Elsewhere as Elsewhere
+use Rattle.a32_elsewhere.proofs.Elsewhere as Elsewhere
 use Rattle.encode_home.proofs.Same as Same
 use Rattle.encode.proofs.Encodes as Encodes
 use Rattle.section.proofs.Accepted as Accepted

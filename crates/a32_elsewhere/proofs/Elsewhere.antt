@@ -11,10 +11,10 @@ use Rattle.insn.specs.Answer.{insnOf, accepted, refused}
 use Rattle.insn.specs.declared.Decoded.{Decoded}
 use Rattle.insn.specs.declared.Insn.{Insn}
 use Rattle.a32_transfer.specs.Branch.{targetFrom}
 use Rattle.a32.specs.Decode.{decodeOf}
-use Rattle.a32.specs.Elsewhere.{at, onward, moved}
+use Rattle.a32_elsewhere.specs.Elsewhere.{at, onward, moved}
 use Rattle.a32.proofs.Groups.{Group, unconditional, coprocessor, misc, halfword, dp-reg, multiply, sync, extra-ldst, dp-imm, ldst, ldst-index}
 use Rattle.a32.proofs.Groups.{media, block, branch, reaches, by-group}
 
 -- an address passes through a choice, a refusal stays as it is, and an instruction is given it
 through : (b : ℕ) (t : Bool) (x y : Decoded) → at b (pick t x y) ≡ pick t (at b x) (at b y)

@@ -1,0 +1,1 @@
+//! What an address does to an answer.
