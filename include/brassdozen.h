@@ -19,7 +19,7 @@ extern "C" {
 
 /* The version of this header: 10,000 for each major one, 100 for each minor one, and one for each patch. The major one changes where what is
    here changes, a row or a function, and the minor one where something is added. */
-enum { BRASSDOZEN_VERSION = 10000 };
+enum { BRASSDOZEN_VERSION = 20000 };
 
 /* The version of the library that is linked. */
 uint32_t brassdozen_version(void);
@@ -80,10 +80,17 @@ uint8_t brassdozen_decode_bytes(const uint8_t *bytes, size_t count, uint64_t add
    that brassdozen_decode has written gives the home word of its word. */
 uint64_t brassdozen_encode(const uint64_t *row, size_t length);
 
-/* The home word of `word`: of all words with its answer, the one in which the bits that are ignored are zero, but that bit 23 is one where it
-   is ignored: in a load or store in immediate offset mode, but for the extra ones, and in a preload, if 11:0 is 0. Or 2 or 3, as for
-   decoding. */
+/* The home word of `word`: of all words with its answer, the one in which the bits that are ignored are filled as the manual draws them; or 2
+   or 3, as for decoding. Ones fill 19:8 of bx, bxj and blx to a register, 19:16 and 11:8 of clz, 15:12 of sdiv, udiv and msr, 19:16 of mrs,
+   11:8 of the exclusives and 3:0 of their loads, and 3:0 of clrex; zeros fill all others, and 15:12 of an immediate msr with mask 0 and bit 22
+   clear. Bit 23 is one where it is ignored: in a load or store in immediate offset mode, but for the extra ones, and in a preload, if 11:0
+   is 0. */
 uint64_t brassdozen_home(uint32_t word);
+
+/* The same two for tools that stored words with zeros in all of these bits but bit 23, which is one as above. They refuse what the others
+   refuse, and a word's two home words have the same answer. */
+uint64_t brassdozen_encode_zeros(const uint64_t *row, size_t length);
+uint64_t brassdozen_home_zeros(uint32_t word);
 
 /* Writes the line of `word` at `address`, as the listing has it, newline included, to the start of `out`, and gives its length, at most 96;
    or 10, exactly if it is longer than `length`. A refusal changes no byte of `out`, and nothing changes one after the line. */

@@ -35,12 +35,15 @@ static void check_row(uint32_t word, uint64_t address)
     memset(whole, UNTOUCHED, sizeof whole);
     unsigned refusal = brassdozen_decode(word, address, whole, ROOM);
     uint64_t home = brassdozen_home(word);
-    CHECK(brassdozen_refusal(home) == refusal);
+    CHECK(brassdozen_refusal(home) == refusal && brassdozen_refusal(brassdozen_home_zeros(word)) == refusal);
     if (refusal == 0) {
         CHECK(untouched(whole + BRASSDOZEN_ROW, whole + ROOM));
         CHECK(whole[0] == address && whole[2] == word >> 28);
         CHECK(brassdozen_encode(whole, BRASSDOZEN_ROW) == home);
         CHECK(brassdozen_home(brassdozen_result(home)) == home);
+        uint64_t zeros = brassdozen_home_zeros(word);
+        CHECK(brassdozen_encode_zeros(whole, BRASSDOZEN_ROW) == zeros);
+        CHECK(brassdozen_home_zeros(brassdozen_result(home)) == zeros && brassdozen_home(brassdozen_result(zeros)) == home);
     } else {
         CHECK(refusal == BRASSDOZEN_COPROCESSOR || refusal == BRASSDOZEN_NO_ROW);
         CHECK(brassdozen_result(home) == 0);

@@ -45,8 +45,9 @@ const std::unordered_map<std::string, Bits> &table() {
         for (const char *n : {"SXT", "UXT"})
             for (const char *k : {"B", "B16", "H", "AB", "AB16", "AH"}) t[std::string(n) + k] = zeros(9, 8);
         for (const char *n : {"STM (User registers)", "LDM (User registers)"}) t[n] = zeros(21, 21);
-        for (const char *n : {"PLD (immediate)", "PLD (literal)", "PLD (register)", "PLDW (immediate)", "PLDW (register)", "PLI (immediate, literal)", "PLI (register)"})
+        for (const char *n : {"PLD (immediate)", "PLD (register)", "PLDW (immediate)", "PLDW (register)", "PLI (immediate, literal)", "PLI (register)"})
             t[n] = ones(15, 12);
+        t["PLD (literal)"] = ones(22, 22) + ones(15, 12);
         t["CLREX"] = ones(19, 12) + zeros(11, 8) + ones(3, 0);
         for (const char *n : {"DSB", "DMB", "ISB"}) t[n] = ones(19, 12) + zeros(11, 8);
         t["CPS"] = zeros(15, 9);

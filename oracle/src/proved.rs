@@ -12,10 +12,14 @@ pub struct Proved {
     pub digest: extern "C" fn(h: u64, first: u32, count: u32, address: u64) -> u64,
     /// Decodes a word at an address, and encodes the answer. Gives what `Coded::of` reads.
     pub trip: extern "C" fn(word: u32, address: u64) -> u64,
+    /// The same under the zero filler.
+    pub trip_zeros: extern "C" fn(word: u32, address: u64) -> u64,
     /// Decodes a word at an address. Gives the refusal; the row of an accepted word is written.
     pub decode: fn(word: u32, address: u64, row: &mut Row) -> u8,
     /// Encodes a row, of any length. Gives what `Coded::of` reads.
     pub encode: fn(row: &[u64]) -> u64,
+    /// The same under the zero filler.
+    pub encode_zeros: fn(row: &[u64]) -> u64,
     /// Writes the listing of a section to the start of `out`. Gives what `Coded::of` reads, with a
     /// length in the word's place.
     pub listing: fn(section: &[u8], out: &mut [u8]) -> u64,
@@ -63,8 +67,10 @@ impl Display for Coded {
 pub const PROVED: Option<Proved> = Some(Proved {
     digest: linked::digest,
     trip: linked::trip,
+    trip_zeros: linked::trip_zeros,
     decode: linked::decode,
     encode: linked::encode,
+    encode_zeros: linked::encode_zeros,
     listing: linked::listing,
 });
 
@@ -78,8 +84,10 @@ mod linked {
     unsafe extern "C" {
         pub safe fn digest(h: u64, first: u32, count: u32, address: u64) -> u64;
         pub safe fn trip(word: u32, address: u64) -> u64;
+        pub safe fn trip_zeros(word: u32, address: u64) -> u64;
         fn brassdozen_decode(word: u32, address: u64, row: *mut u64, numbers: usize) -> u8;
         fn brassdozen_encode(row: *const u64, numbers: usize) -> u64;
+        fn brassdozen_encode_zeros(row: *const u64, numbers: usize) -> u64;
         fn brassdozen_listing(section: *const u8, bytes: usize, out: *mut u8, room: usize) -> u64;
     }
 
@@ -92,6 +100,10 @@ mod linked {
 
     pub fn encode(row: &[u64]) -> u64 {
         unsafe { brassdozen_encode(row.as_ptr(), row.len()) }
+    }
+
+    pub fn encode_zeros(row: &[u64]) -> u64 {
+        unsafe { brassdozen_encode_zeros(row.as_ptr(), row.len()) }
     }
 
     pub fn listing(section: &[u8], out: &mut [u8]) -> u64 {

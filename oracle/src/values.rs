@@ -9,7 +9,7 @@ use crate::answer::{Answer, Instruction};
 use crate::cores::on_every_core;
 use crate::damage::Damage;
 use crate::damaged_row::RowDamage;
-use crate::home::home;
+use crate::home::{Filler, home};
 use crate::made;
 use crate::oracle::Oracle;
 use crate::proved::{Coded, Proved};
@@ -160,7 +160,9 @@ impl Trial {
         let mut give = |oracle: &mut Oracle, origin, row: &[u64], expected| {
             let coded = Coded::of((self.proved.encode)(row));
             tally.of(origin).add(coded);
-            if let Err(how) = check(oracle, row, coded, expected) {
+            let zeros = Coded::of((self.proved.encode_zeros)(row));
+            let checked = check(oracle, row, coded, expected).and_then(|()| filled(coded, zeros));
+            if let Err(how) = checked {
                 self.failures
                     .add(|| format!("value {index}, {origin:?}: {how}: {row:x?}"));
             }
@@ -170,7 +172,7 @@ impl Trial {
             return give(oracle, Origin::Nothing, &row(&value), None);
         }
         let (word, answer) = accepted(oracle, &mut random);
-        let (home, whole) = (home(word), row(&answer));
+        let (home, whole) = (home(word, Filler::Manual), row(&answer));
         give(oracle, Origin::Undamaged, &whole, Some(home));
         let (origin, damaged) = if random.one_in(3) {
             let damage = random.pick(&RowDamage::ALL);
@@ -241,8 +243,22 @@ fn check(
         Answer::Accepted(answer) if row(&answer) == whole => {}
         _ => return Err(format!("gives {coded}, which has another row")),
     }
-    if home(coded.word) != coded.word {
+    if home(coded.word, Filler::Manual) != coded.word {
         return Err(format!("gives {coded}, which is no home word"));
     }
     Ok(())
+}
+
+/// Under the zero filler a row is refused as it is under the manual's, or has the other home word.
+fn filled(coded: Coded, zeros: Coded) -> Result<(), String> {
+    let expected = if coded.refusal == 0 {
+        Coded::word(home(coded.word, Filler::Zeros))
+    } else {
+        coded
+    };
+    if zeros == expected {
+        Ok(())
+    } else {
+        Err(format!("gives {zeros} with zeros, not {expected}"))
+    }
 }

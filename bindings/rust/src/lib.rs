@@ -6,7 +6,7 @@
 #![no_std]
 
 /// The version that these declarations are of, as `BRASSDOZEN_VERSION` of the header says it.
-pub const VERSION: u32 = 10_000;
+pub const VERSION: u32 = 20_000;
 
 /// How many numbers a row has.
 pub const ROW: usize = 49;
@@ -78,14 +78,24 @@ pub fn decode_bytes(bytes: &[u8], address: u64, row: &mut [u64]) -> Result<(), R
     })
 }
 
-/// The home word of the words whose answer has this row.
+/// The home word of the words whose answer has this row, filled as the manual draws it.
 pub fn encode(row: &[u64]) -> Result<u32, Refusal> {
     given(unsafe { foreign::brassdozen_encode(row.as_ptr(), row.len()) })
 }
 
-/// The home word of a word.
+/// The home word of a word, filled as the manual draws it.
 pub fn home(word: u32) -> Result<u32, Refusal> {
     given(unsafe { foreign::brassdozen_home(word) })
+}
+
+/// What `encode` gives, with zeros in the bits that are ignored.
+pub fn encode_zeros(row: &[u64]) -> Result<u32, Refusal> {
+    given(unsafe { foreign::brassdozen_encode_zeros(row.as_ptr(), row.len()) })
+}
+
+/// What `home` gives, with zeros in the bits that are ignored.
+pub fn home_zeros(word: u32) -> Result<u32, Refusal> {
+    given(unsafe { foreign::brassdozen_home_zeros(word) })
 }
 
 /// Writes the line of a word to the start of `out`, and gives its length. A refusal changes no byte.
@@ -136,6 +146,8 @@ mod foreign {
         ) -> u8;
         pub fn brassdozen_encode(row: *const u64, length: usize) -> u64;
         pub fn brassdozen_home(word: u32) -> u64;
+        pub fn brassdozen_encode_zeros(row: *const u64, length: usize) -> u64;
+        pub fn brassdozen_home_zeros(word: u32) -> u64;
         pub fn brassdozen_line(address: u64, word: u32, out: *mut u8, length: usize) -> u64;
         pub fn brassdozen_listing(
             section: *const u8,

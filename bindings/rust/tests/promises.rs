@@ -6,8 +6,8 @@ use std::fs;
 use std::path::PathBuf;
 
 use brassdozen::{
-    LINE, LISTING, ROW, Refusal, VERSION, decode, decode_bytes, encode, home, line, listing,
-    version,
+    LINE, LISTING, ROW, Refusal, VERSION, decode, decode_bytes, encode, encode_zeros, home,
+    home_zeros, line, listing, version,
 };
 
 /// What a buffer holds before a call.
@@ -189,6 +189,11 @@ fn words_come_home() {
                 assert_eq!(encode(&row), Ok(back), "{word:08x} at {address:x}");
                 assert_eq!(decoded(back, address), Ok(row), "{word:08x} at {address:x}");
                 assert_eq!(home(back), Ok(back), "{word:08x}");
+                let zeros = home_zeros(word).expect("an accepted word has a home word");
+                assert_eq!(encode_zeros(&row), Ok(zeros), "{word:08x} at {address:x}");
+                assert_eq!(decoded(zeros, address), Ok(row), "{word:08x} at {address:x}");
+                assert_eq!(home(zeros), Ok(back), "{word:08x}");
+                assert_eq!(home_zeros(back), Ok(zeros), "{word:08x}");
                 assert_eq!(row[0], address);
                 assert_eq!(row[2], u64::from(word >> 28));
             }
@@ -201,6 +206,7 @@ fn words_come_home() {
                 };
                 assert_eq!(refusal, expected, "{word:08x}");
                 assert_eq!(home(word), Err(refusal), "{word:08x}");
+                assert_eq!(home_zeros(word), Err(refusal), "{word:08x}");
             }
         }
     }
@@ -208,6 +214,31 @@ fn words_come_home() {
         (100_000..400_000).contains(&accepted),
         "{accepted} accepted"
     );
+}
+
+/// Words of each field that the manual draws as ones: as drawn, and with zeros.
+#[test]
+fn homes_are_filled_as_drawn() {
+    let words = [
+        (0xe12f_ff1e, 0xe120_001e), // bx
+        (0xe16f_0f10, 0xe160_0010), // clz
+        (0xe710_f110, 0xe710_0110), // sdiv
+        (0xe129_f000, 0xe129_0000), // msr
+        (0xe328_f000, 0xe328_0000), // msr of a number
+        (0xe360_f000, 0xe360_0000), // msr of a number, mask 0 of the saved register
+        (0xe320_0000, 0xe320_0000), // msr of a number, mask 0: with ones it would be a hint
+        (0xe10f_0000, 0xe100_0000), // mrs
+        (0xe190_0f9f, 0xe190_0090), // ldrex
+        (0xe180_0f90, 0xe180_0090), // strex
+        (0xf57f_f01f, 0xf57f_f010), // clrex
+        (0xe591_0000, 0xe591_0000), // ldr: bit 23 is no filler
+    ];
+    for (drawn, zeros) in words {
+        assert_eq!(home(drawn), Ok(drawn), "{drawn:08x}");
+        assert_eq!(home(zeros), Ok(drawn), "{zeros:08x}");
+        assert_eq!(home_zeros(drawn), Ok(zeros), "{drawn:08x}");
+        assert_eq!(home_zeros(zeros), Ok(zeros), "{zeros:08x}");
+    }
 }
 
 /// At one address, two words with one home word have equal rows and equal lines but for the word,
@@ -223,6 +254,7 @@ fn different_work_has_different_rows_and_lines() {
             continue;
         };
         let same = home(word) == home(other);
+        assert_eq!(home_zeros(word) == home_zeros(other), same, "{word:08x} {other:08x}");
         assert_eq!(row == other_row, same, "{word:08x} {other:08x}");
         let text = |word| line_of(address, word)[18..].to_vec();
         assert_eq!(text(word) == text(other), same, "{word:08x} {other:08x}");
@@ -348,6 +380,7 @@ fn damaged_rows_are_refused_or_have_a_word() {
             }
             Err(refusal) => {
                 refused += 1;
+                assert_eq!(encode_zeros(&row), Err(refusal));
                 assert_eq!(refusal, Refusal::NO_WORD);
             }
         }

@@ -14,8 +14,8 @@ use Rattle.insn.specs.Answer.{PLACES}
 use Rattle.insn.specs.declared.Decoded.{Decoded}
 use Rattle.insn.specs.declared.Insn.{Insn}
 use Rattle.a32.specs.Decode.{decodeOf}
-use Rattle.encode_home.specs.Home.{homeOf}
-use Rattle.encode_home.specs.Word.{wordOf}
+use Rattle.encode_home.specs.declared.Filler.{Filler}
+use Rattle.encode_home.specs.Home.{filledWord, homeOf}
 use Rattle.a32_elsewhere.proofs.Elsewhere.{keeps-address}
 use Rattle.encode_home.proofs.Same.{leads-home, same-answer}
 use Rattle.insn_value.specs.Value.{insnFrom}
@@ -66,41 +66,42 @@ reads-back w addr out e =
 prefix : (i : Insn) (rest : List ℕ) → length (i .ops) ≡ PLACES → rowOf i ≡ whole (rowOf i ++ rest)
 prefix i rest e = subst (λ (n : ℕ). rowOf i ≡ numbersOf (rowOf i ++ rest) 0 n) (row-size i e) (front (rowOf i) rest)
 
--- and encodes to the home word
-pub goes-home : (w addr : ℕ) (out : List ℕ) → w < 2 ^ 32 → rowRefusal (decodeOf w addr) out ≡ 0
-    → encodedOf (rowLast (decodeOf w addr) out) ≡ packed 0 (homeOf w)
-goes-home w addr out bound e = ap encodedOf (lays d out e) ∙ finds w (rowOf (d .insn) ++ rest) bound answers
-  where
-    d : Decoded
-    d = decodeOf w addr
+module _ (c : Filler) where
+  -- and encodes to the home word
+  pub goes-home : (w addr : ℕ) (out : List ℕ) → w < 2 ^ 32 → rowRefusal (decodeOf w addr) out ≡ 0
+      → encodedOf c (rowLast (decodeOf w addr) out) ≡ packed 0 (homeOf c w)
+  goes-home w addr out bound e = ap (encodedOf c) (lays d out e) ∙ finds c w (rowOf (d .insn) ++ rest) bound answers
+    where
+      d : Decoded
+      d = decodeOf w addr
 
-    rest : List ℕ
-    rest = drop (length (rowOf (d .insn))) out
+      rest : List ℕ
+      rest = drop (length (rowOf (d .insn))) out
 
-    ok : d .refusal ≡ 0
-    ok = accepts d out e
+      ok : d .refusal ≡ 0
+      ok = accepts d out e
 
-    there : decodeOf w (d .insn .addr) ≡ d
-    there = ap (decodeOf w) (keeps-address w addr ok)
+      there : decodeOf w (d .insn .addr) ≡ d
+      there = ap (decodeOf w) (keeps-address w addr ok)
 
-    answers : Answers w (rowOf (d .insn) ++ rest)
-    answers = record {
-      accepted = ap (λ (x : Decoded). x .refusal) there ∙ ok;
-      equal = ap (λ (x : Decoded). rowOf (x .insn)) there ∙ prefix (d .insn) rest (fits w addr ok .places);
-    }
+      answers : Answers w (rowOf (d .insn) ++ rest)
+      answers = record {
+        accepted = ap (λ (x : Decoded). x .refusal) there ∙ ok;
+        equal = ap (λ (x : Decoded). rowOf (x .insn)) there ∙ prefix (d .insn) rest (fits w addr ok .places);
+      }
 
--- different work, different rows
-pub rows-alike : (w v addr : ℕ) (out : List ℕ) → w < 2 ^ 32 → v < 2 ^ 32 → rowRefusal (decodeOf w addr) out ≡ 0 → rowRefusal (decodeOf v addr) out ≡ 0
-    → (rowLast (decodeOf w addr) out ≡ rowLast (decodeOf v addr) out) ↔ (homeOf w ≡ homeOf v)
-rows-alike w v addr out bound bound′ e e′ = (one-home, one-row)
-  where
-    one-home : rowLast (decodeOf w addr) out ≡ rowLast (decodeOf v addr) out → homeOf w ≡ homeOf v
-    one-home same =
-        sym (leads-home w addr bound (accepts (decodeOf w addr) out e))
-        ∙ ap wordOf (sym (reads-back w addr out e) ∙ ap insnFrom same ∙ reads-back v addr out e′)
-        ∙ leads-home v addr bound′ (accepts (decodeOf v addr) out e′)
+  -- different work, different rows
+  pub rows-alike : (w v addr : ℕ) (out : List ℕ) → w < 2 ^ 32 → v < 2 ^ 32 → rowRefusal (decodeOf w addr) out ≡ 0 → rowRefusal (decodeOf v addr) out ≡ 0
+      → (rowLast (decodeOf w addr) out ≡ rowLast (decodeOf v addr) out) ↔ (homeOf c w ≡ homeOf c v)
+  rows-alike w v addr out bound bound′ e e′ = (one-home, one-row)
+    where
+      one-home : rowLast (decodeOf w addr) out ≡ rowLast (decodeOf v addr) out → homeOf c w ≡ homeOf c v
+      one-home same =
+          sym (leads-home c w addr bound (accepts (decodeOf w addr) out e))
+          ∙ ap (filledWord c) (sym (reads-back w addr out e) ∙ ap insnFrom same ∙ reads-back v addr out e′)
+          ∙ leads-home c v addr bound′ (accepts (decodeOf v addr) out e′)
 
-    one-row : homeOf w ≡ homeOf v → rowLast (decodeOf w addr) out ≡ rowLast (decodeOf v addr) out
-    one-row same =
-        ap (λ (d : Decoded). rowLast d out)
-        (same-answer w v addr bound bound′ (accepts (decodeOf w addr) out e) (accepts (decodeOf v addr) out e′) .1 same)
+      one-row : homeOf c w ≡ homeOf c v → rowLast (decodeOf w addr) out ≡ rowLast (decodeOf v addr) out
+      one-row same =
+          ap (λ (d : Decoded). rowLast d out)
+          (same-answer c w v addr bound bound′ (accepts (decodeOf w addr) out e) (accepts (decodeOf v addr) out e′) .1 same)

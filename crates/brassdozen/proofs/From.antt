@@ -11,6 +11,7 @@ use Rattle.word.specs.Choice.{pick}
 use Rattle.insn.specs.declared.Decoded.{Decoded}
 use Rattle.insn.specs.declared.Insn.{Insn}
 use Rattle.a32.specs.Decode.{decodeOf}
+use Rattle.encode_home.specs.declared.Filler.{Filler}
 use Rattle.encode_words.specs.Candidate.{candidate}
 use Rattle.insn_value.specs.Value.{insnFrom}
 use Rattle.text.specs.Fits.{answerOf}
@@ -23,13 +24,13 @@ pub from : {d d′ : Decoded} {r : ℕ} (out : List ℕ) {last : List ℕ} → d
 from out e given = (given .0 ∙ ap (λ (d : Decoded). rowRefusal d out) e, given .1 ∙ ap (λ (d : Decoded). rowLast d out) e)
 
 -- what encoding gives, from the value that is read, the word that it leads to and that word's answer
-pub encoded : (row : List ℕ) {i : Insn} {w : ℕ} {d : Decoded} {r : ℕ} → i ≡ insnFrom row → w ≡ candidate i → d ≡ decodeOf w (i .addr)
-    → r ≡ checked row w d → r ≡ encodedOf row
-encoded row {i} {w} at-i at-w at-d is =
+pub encoded : (c : Filler) (row : List ℕ) {i : Insn} {w : ℕ} {d : Decoded} {r : ℕ} → i ≡ insnFrom row → w ≡ candidate c i → d ≡ decodeOf w (i .addr)
+    → r ≡ checked row w d → r ≡ encodedOf c row
+encoded c row {i} {w} at-i at-w at-d is =
     is
     ∙ ap (checked row w) at-d
     ∙ ap (λ (n : ℕ). checked row n (decodeOf n (i .addr))) at-w
-    ∙ ap (λ (j : Insn). checked row (candidate j) (decodeOf (candidate j) (j .addr))) at-i
+    ∙ ap (λ (j : Insn). checked row (candidate c j) (decodeOf (candidate c j) (j .addr))) at-i
 
 -- no more bytes are written than the text has
 pub no-longer : (text out : List ℕ) {w : Written} → w ≡ answerOf text out → w .len ≤ length text

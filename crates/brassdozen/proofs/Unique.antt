@@ -6,7 +6,9 @@ use Rattle.brassdozen.proofs.brassdozen_version.Reads as version
 use Rattle.brassdozen.proofs.brassdozen_decode.Reads as decode
 use Rattle.brassdozen.proofs.brassdozen_decode_bytes.Reads as decode-bytes
 use Rattle.brassdozen.proofs.brassdozen_encode.Reads as encode
+use Rattle.brassdozen.proofs.brassdozen_encode_zeros.Reads as encode-zeros
 use Rattle.brassdozen.proofs.brassdozen_home.Reads as home
+use Rattle.brassdozen.proofs.brassdozen_home_zeros.Reads as home-zeros
 use Rattle.brassdozen.proofs.brassdozen_line.Reads as line
 use Rattle.brassdozen.proofs.brassdozen_listing.Reads as listing
 
@@ -26,6 +28,12 @@ encode-only κs a r r′ s s′ p q = p ∙ sym q
 
 pub home-only : (κs : _) (a : _) (r r′ : _) (s s′ : _) → home.Post κs a r s → home.Post κs a r′ s′ → r ≡ r′
 home-only κs a r r′ s s′ p q = p ∙ sym q
+
+pub encode-zeros-only : (κs : _) (a : _) (r r′ : _) (s s′ : _) → encode-zeros.Post κs a r s → encode-zeros.Post κs a r′ s′ → r ≡ r′
+encode-zeros-only κs a r r′ s s′ p q = p ∙ sym q
+
+pub home-zeros-only : (κs : _) (a : _) (r r′ : _) (s s′ : _) → home-zeros.Post κs a r s → home-zeros.Post κs a r′ s′ → r ≡ r′
+home-zeros-only κs a r r′ s s′ p q = p ∙ sym q
 
 pub line-only : (κs : _) (a : _) (r r′ : _) (s s′ : _) → line.Post κs a r s → line.Post κs a r′ s′ → (r ≡ r′) × (now (s .1 .1 .0) ≡ now (s′ .1 .1 .0))
 line-only κs a r r′ s s′ p q = (p .0 ∙ sym (q .0), p .1 ∙ sym (q .1))

@@ -8,6 +8,7 @@ use Rattle.word.specs.Choice.{pick, both}
 use Rattle.word.specs.Refusal.{NO_WORD}
 use Rattle.insn.specs.declared.Decoded.{Decoded}
 use Rattle.a32.specs.Decode.{decodeOf}
+use Rattle.encode_home.specs.declared.Filler.{Filler}
 use Rattle.encode_words.specs.Candidate.{candidate}
 use Rattle.encode.specs.Encode.{homeAnswer}
 use Rattle.insn_value.specs.Value.{insnFrom}
@@ -15,9 +16,9 @@ use Rattle.word_packed.specs.Packed.{packed}
 use Rattle.text.specs.Fits.{answerOf, lastOf}
 use Rattle.insn_row.specs.Row.{ROW, rowOf, numbersOf, holds}
 
--- 1.0.0
+-- 2.0.0
 abbrev pub VERSION : ℕ
-VERSION = 10000
+VERSION = 20000
 
 -- an answer's refusal; or, of an accepted one, 10 if its row is longer than what is lent
 abbrev pub rowRefusal : Decoded → List ℕ → ℕ
@@ -41,11 +42,11 @@ abbrev pub checked : List ℕ → ℕ → Decoded → ℕ
 checked row w d = pick (both (eqb (d .refusal) 0) (holds row 0 (rowOf (d .insn)))) (packed 0 w) (packed NO_WORD 0)
 
 -- the word that the row's value leads to, if its answer at the row's address has this row; if it has not, no word's has (`encodes-exactly`)
-abbrev pub encodedOf : List ℕ → ℕ
-encodedOf row = checked row (candidate (insnFrom row)) (decodeOf (candidate (insnFrom row)) (getD row 0 0))
+abbrev pub encodedOf : Filler → List ℕ → ℕ
+encodedOf c row = checked row (candidate c (insnFrom row)) (decodeOf (candidate c (insnFrom row)) (getD row 0 0))
 
-abbrev pub homedOf : ℕ → ℕ
-homedOf w = packed (homeAnswer w .refusal) (homeAnswer w .word)
+abbrev pub homedOf : Filler → ℕ → ℕ
+homedOf c w = packed (homeAnswer c w .refusal) (homeAnswer c w .word)
 
 -- the length of a text, or 10 if it is longer than what is lent
 abbrev pub writtenOf : List ℕ → List ℕ → ℕ

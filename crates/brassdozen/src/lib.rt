@@ -2,8 +2,9 @@
 //! `include/brassdozen.h` declares each function to C.
 use a32::decode;
 use a32::decode_bytes;
-use encode::home;
-use encode_words::word_of;
+use encode::home_with;
+use encode_home::Filler;
+use encode_words::filled_word;
 use insn::Decoded;
 use insn_row::is_row;
 use insn_row::put_row;
@@ -24,7 +25,7 @@ ghost use Rattle.brassdozen.specs.Given.{VERSION, rowRefusal, rowLast, e
 pub extern "C" fn brassdozen_version() -> u32
     ensures { λ r. ⌜ r ≡ VERSION ⌝ }
 {
-    10_000
+    20_000
 }
 
 /// Decodes `word` at `addr` into the row of its answer, and gives 0; or gives a refusal's number.
@@ -60,10 +61,24 @@ fn put_answer(row: &mut [u64], d: Decoded) -> u8
 /// The home word of the words whose row, at the address in it, `row` is, with a refusal's number above it.
 #[no_mangle]
 pub extern "C" fn brassdozen_encode(row: &[u64]) -> u64
-    ensures { λ r. ⌜ r ≡ encodedOf (now (row .entry)) ⌝ }
+    ensures { λ r. ⌜ r ≡ encodedOf Filler.Manual (now (row .entry)) ⌝ }
+{
+    encode_row(row, Filler::Manual)
+}
+
+/// The same with zeros in the bits that the words' row ignores.
+#[no_mangle]
+pub extern "C" fn brassdozen_encode_zeros(row: &[u64]) -> u64
+    ensures { λ r. ⌜ r ≡ encodedOf Filler.Zeros (now (row .entry)) ⌝ }
+{
+    encode_row(row, Filler::Zeros)
+}
+
+fn encode_row(row: &[u64], filler: Filler) -> u64
+    ensures { λ r. ⌜ r ≡ encodedOf filler (now (row .entry)) ⌝ }
 {
     let i = insn_from(row);
-    let w = word_of(i);
+    let w = filled_word(i, filler);
     let answer = decode(w, i.addr);
     if answer.refusal == 0 {
         if is_row(row, answer.insn) {
@@ -79,9 +94,23 @@ pub extern "C" fn brassdozen_encode(row: &[u64]) -> u64
 /// The home word of `word`, with a refusal's number above it.
 #[no_mangle]
 pub extern "C" fn brassdozen_home(word: u32) -> u64
-    ensures { λ r. ⌜ r ≡ homedOf word ⌝ }
+    ensures { λ r. ⌜ r ≡ homedOf Filler.Manual word ⌝ }
 {
-    let h = home(word);
+    home_word(word, Filler::Manual)
+}
+
+/// The same with zeros in the bits that the word's row ignores.
+#[no_mangle]
+pub extern "C" fn brassdozen_home_zeros(word: u32) -> u64
+    ensures { λ r. ⌜ r ≡ homedOf Filler.Zeros word ⌝ }
+{
+    home_word(word, Filler::Zeros)
+}
+
+fn home_word(word: u32, filler: Filler) -> u64
+    ensures { λ r. ⌜ r ≡ homedOf filler word ⌝ }
+{
+    let h = home_with(word, filler);
     pack(h.refusal, h.word)
 }
 

@@ -1,7 +1,8 @@
 //! The encoder: an instruction value's word is put together from its name and operands, and the decoder says whether it
 //! has that value for its answer. A home word is the word that an answer leads to.
 use a32::decode;
-use encode_words::word_of;
+use encode_home::Filler;
+use encode_words::filled_word;
 use insn::Insn;
 use insn_same::same;
 use word::refusal::NO_WORD;
@@ -14,11 +15,18 @@ pub struct Encoded {
     pub word: u32,
 }
 
-/// The home word of an instruction value.
+/// The home word of an instruction value, with the bits that its row ignores as the manual draws them.
 pub fn encode(i: Insn) -> Encoded
-    ensures { λ r. ⌜ r ≡ encodeOf i ⌝ }
+    ensures { λ r. ⌜ r ≡ encodeOf Filler.Manual i ⌝ }
 {
-    let w = word_of(i);
+    encode_with(i, Filler::Manual)
+}
+
+/// The same under a choice of what fills them.
+pub fn encode_with(i: Insn, filler: Filler) -> Encoded
+    ensures { λ r. ⌜ r ≡ encodeOf filler i ⌝ }
+{
+    let w = filled_word(i, filler);
     let answer = decode(w, i.addr);
     if answer.refusal == 0 {
         if same(answer.insn, i) {
@@ -34,15 +42,22 @@ pub fn encode(i: Insn) -> Encoded
     }
 }
 
-/// The home word of an accepted word: an answer of the decoder has the word that it leads to, so there is nothing to check.
+/// The home word of an accepted word, filled as the manual draws it.
 pub fn home(w: u32) -> Encoded
-    ensures { λ r. ⌜ r ≡ homeAnswer w ⌝ }
+    ensures { λ r. ⌜ r ≡ homeAnswer Filler.Manual w ⌝ }
+{
+    home_with(w, Filler::Manual)
+}
+
+/// The same under a choice. An answer of the decoder has the word that it leads to, so there is nothing to check.
+pub fn home_with(w: u32, filler: Filler) -> Encoded
+    ensures { λ r. ⌜ r ≡ homeAnswer filler w ⌝ }
 {
     let answer = decode(w, 0);
     if answer.refusal == 0 {
         Encoded {
             refusal: 0,
-            word: word_of(answer.insn),
+            word: filled_word(answer.insn, filler),
         }
     } else {
         Encoded {

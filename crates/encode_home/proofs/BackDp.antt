@@ -22,6 +22,8 @@ use Rattle.a32_shared.specs.Row.{regOf, answer}
 use Rattle.a32_dp.specs.Names as Names
 use Rattle.a32_dp.specs.Names.{dpName}
 use Rattle.insn_parts.specs.Operands.{operandFlat}
+use Rattle.encode_home.specs.declared.Filler.{Filler}
+use Rattle.encode_home.specs.declared.Filler.the-variants.{Manual, Zeros}
 use Rattle.encode_home.specs.Table.{Put, zeros}
 use Rattle.encode_home.specs.Home.{putsOf, putAll}
 use Rattle.encode_home.specs.Word.{wordOf}
@@ -136,15 +138,15 @@ module _ (w g : ℕ) (bound : w < 2 ^ 32) (group : field w 25 3 ≡ g) where
   all-read = simp group at (whole layout w bound)
 
   pub no-rd : Joined 0 (field w 16 4) (put w 12 4 0)
-  no-rd = simp (apart, group) at (laid layout (zeros 15 12 ∷ []) tt w bound refl)
+  no-rd = simp (apart, group) at (laid Zeros layout (zeros 15 12 ∷ []) tt w bound refl)
 
   pub no-rn : Joined (field w 12 4) 0 (put w 16 4 0)
-  no-rn = simp (apart, group) at (laid layout (zeros 19 16 ∷ []) tt w bound refl)
+  no-rn = simp (apart, group) at (laid Zeros layout (zeros 19 16 ∷ []) tt w bound refl)
 
   module _ (flow : Flow) where
     -- a compare: Rd is 15 where it branches
     pub compare-back : field w 23 2 ≡ 2 → field w 20 1 ≡ 1 → (ps : List Put) → pick (isIndirect flow) [] (zeros 15 12 ∷ []) ≡ ps
-        → Joined (pick (isIndirect flow) 15 0) (field w 16 4) (putAll ps w)
+        → Joined (pick (isIndirect flow) 15 0) (field w 16 4) (putAll Zeros ps w)
         → (source : List Operand) → Gives w g source → (addr : ℕ) → Back ps w (answer w addr (dpName w) flow (regOf w 16 ∷ source))
     unfolding wordOf
     compare-back is s ps at home [] given addr = absurd given

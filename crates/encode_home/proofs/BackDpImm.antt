@@ -1,21 +1,23 @@
 -- Immediate data processing: an answer leads back to its home word, which has it too. Assumes nothing.
-use mathlib.Core.Path.{_≡_, refl}
-use mathlib.Core.Bool.{Bool, true, false}
-use mathlib.Core.List.{[], _∷_}
+use mathlib.Core.Path.{_≡_, refl, _∙_}
+use mathlib.Core.Bool.{Bool, true, false, not}
+use mathlib.Core.List.{[], _∷_, _++_}
 use Prim.Native.Nat.{ℕ, _+_, _*_, _^_, _<_}
 use native.Mathlib.Omega.{arith}
-use borrow.Author.Tests.{eqb-true, eqb-false}
+use borrow.Author.Tests.{eqb-true, eqb-false, ne-eqb}
 use lib.Dec.{eqb}
-use Rattle.word.specs.Choice.{by-test, tested, parts, fails}
+use Rattle.word.specs.Choice.{pick, by-test, tested, parts, fails}
 use Rattle.word.specs.Field.{field, put, small, splits}
-use Rattle.word.specs.Layout.{join, whole, upper, lower}
+use Rattle.word.specs.Layout.{join, joined, whole, upper, lower}
 use Rattle.insn.specs.declared.Flow.the-variants.{Next}
 use Rattle.a32_shared.specs.Row.{pcFlow}
 use Rattle.a32_imm.specs.Imm.{leastOf, immOf}
 use Rattle.a32_dp.specs.Names.{dpName}
 use Rattle.a32_dp.specs.DpImm.{dpImmOf, hintSlot, msrOf, toPc}
-use Rattle.encode_home.specs.Table.{zeros}
-use Rattle.encode_home.specs.Home.{putsOf}
+use Rattle.encode_home.specs.declared.Filler.{Filler}
+use Rattle.encode_home.specs.declared.Filler.the-variants.{Manual, Zeros}
+use Rattle.encode_home.specs.Table.{Put, zeros, filled, drawn, number}
+use Rattle.encode_home.specs.Home.{putsOf, putAll}
 use Rattle.encode_home.specs.Word.{wordOf}
 use Rattle.encode_home.specs.WordDp.{wideLayout, hintLayout, msrLayout, source12}
 use Rattle.encode_home.proofs.BackDp.{Gives, no-rd, mov-puts, mvn-puts, compare-back, move-back, plain-back}
@@ -27,6 +29,9 @@ use Rattle.encode_home.proofs.Puts.{low, laid}
 module _ (w : ℕ) where
   still-hint : hintSlot w ≡ true → hintSlot (put w 8 4 0) ≡ true
   still-hint is = unfold hintSlot in simp apart is
+
+  still-masked : field w 22 1 ≡ 0 → eqb (joined w 22 1 16 4) 0 ≡ false → (c : Filler) → hintSlot (put w 12 4 (number c drawn 4)) ≡ false
+  still-masked clear some c = unfold hintSlot in simp (apart, ne-eqb (field w 16 4) 0 (λ e. eqb-false (joined w 22 1 16 4) 0 some (omega (arith, e, clear))))
 
   still-msr : hintSlot (put w 12 4 0) ≡ false
   still-msr = unfold hintSlot in simp (apart, fails)
@@ -53,29 +58,32 @@ module _ (w : ℕ) (bound : w < 2 ^ 32) (group : field w 25 3 ≡ 1) where
         eqb-true (field w 16 4) 0 (parts _ (eqb (field w 12 4) 15) hint .0),
         eqb-true (field w 12 4) 15 (parts (eqb (field w 16 4) 0) _ hint .1),
       )
-      at (laid hintLayout (zeros 11 8 ∷ []) tt w bound refl)
+      at (laid Zeros hintLayout (zeros 11 8 ∷ []) tt w bound refl)
 
   hint : field w 20 5 ≡ 18 → hintSlot w ≡ true → Settles low dpImmOf w
   hint op slot = unfold putsOf wordOf in
       by-value w 0 8 0 (λ n. settles (zeros 11 8 ∷ []) tt (simp (apart, op, slot, still-hint w slot, n)
-      (λ addr. (refl, (refl, refl, hint-word op slot n))))) λ n0.
+      (λ addr. ((λ c. refl), (refl, refl, hint-word op slot n))))) λ n0.
       by-value w 0 8 1 (λ n. settles (zeros 11 8 ∷ []) tt (simp (apart, op, slot, still-hint w slot, n)
-      (λ addr. (refl, (refl, refl, hint-word op slot n))))) λ n1.
+      (λ addr. ((λ c. refl), (refl, refl, hint-word op slot n))))) λ n1.
       by-value w 0 8 2 (λ n. settles (zeros 11 8 ∷ []) tt (simp (apart, op, slot, still-hint w slot, n)
-      (λ addr. (refl, (refl, refl, hint-word op slot n))))) λ n2.
+      (λ addr. ((λ c. refl), (refl, refl, hint-word op slot n))))) λ n2.
       by-value w 0 8 3 (λ n. settles (zeros 11 8 ∷ []) tt (simp (apart, op, slot, still-hint w slot, n)
-      (λ addr. (refl, (refl, refl, hint-word op slot n))))) λ n3.
+      (λ addr. ((λ c. refl), (refl, refl, hint-word op slot n))))) λ n3.
       by-value w 0 8 4 (λ n. settles (zeros 11 8 ∷ []) tt (simp (apart, op, slot, still-hint w slot, n)
-      (λ addr. (refl, (refl, refl, hint-word op slot n))))) λ n4.
+      (λ addr. ((λ c. refl), (refl, refl, hint-word op slot n))))) λ n4.
       refuses (λ addr ok. refusal (simp (op, slot, n0, n1, n2, n3, n4) at ok))
 
-  -- msr, of which 24:20 is 10r10, ignores 15:12
-  msr-back : (r : ℕ) → r < 2 → field w 20 5 ≡ 18 + 4 * r → (addr : ℕ) → Back (zeros 15 12 ∷ []) w (msrOf w addr)
+  -- msr, of which 24:20 is 10r10, ignores 15:12; with mask 0 and bit 22 clear ones there would make it a hint
+  abbrev fill : Bool → Put
+  fill maskless = pick maskless (zeros 15 12) (filled 15 12)
+
+  msr-back : (r : ℕ) → r < 2 → field w 20 5 ≡ 18 + 4 * r → {b : Bool} → eqb (joined w 22 1 16 4) 0 ≡ b → (addr : ℕ) → Back (fill b ∷ []) w (msrOf w addr)
   unfolding putsOf wordOf
-  msr-back r bit op addr =
+  msr-back r bit op {b} masked addr =
       by-test (leastOf (field w 0 12))
-      (λ least. simp (least, upper w 22 1 16 4, lower w 22 1 16 4, imm-one (field w 0 12) (small w 0 12) true least) (refl, refl, word))
-      (λ turned. simp (turned, upper w 22 1 16 4, lower w 22 1 16 4, imm-two (field w 0 12) (small w 0 12)) (refl, refl, word))
+      (λ least. simp (least, masked, upper w 22 1 16 4, lower w 22 1 16 4, imm-one (field w 0 12) (small w 0 12) true least) (refl, puts b, word ∙ zero b))
+      (λ turned. simp (turned, masked, upper w 22 1 16 4, lower w 22 1 16 4, imm-two (field w 0 12) (small w 0 12)) (refl, puts b, word ∙ zero b))
     where
       ten : field w 20 2 ≡ 2
       ten = omega (arith, splits w 20 3 2, small w 20 2)
@@ -84,13 +92,31 @@ module _ (w : ℕ) (bound : w < 2 ^ 32) (group : field w 25 3 ≡ 1) where
       two = omega (arith, splits w 20 3 2, splits w 22 2 1, small w 20 2, small w 22 1)
 
       word : join msrLayout (field w 0 12 ∷ 0 ∷ field w 16 4 ∷ 2 ∷ field w 22 1 ∷ 2 ∷ 1 ∷ field w 28 4 ∷ []) ≡ put w 12 4 0
-      word = simp (apart, ten, two, group) at (laid msrLayout (zeros 15 12 ∷ []) tt w bound refl)
+      word = simp (apart, ten, two, group) at (laid Zeros msrLayout (zeros 15 12 ∷ []) tt w bound refl)
+
+      puts : (b : Bool) → (pick b (zeros 15 12 ∷ []) [] ++ (pick (not b) (filled 15 12 ∷ []) [] ++ [])) ≡ fill b ∷ []
+      puts true = refl
+      puts false = refl
+
+      zero : (b : Bool) → put w 12 4 0 ≡ putAll Zeros (fill b ∷ []) w
+      zero true = refl
+      zero false = refl
 
   msr-low : field w 20 5 ≡ 18 → hintSlot w ≡ false → Settles low dpImmOf w
-  msr-low op slot = settles (zeros 15 12 ∷ []) tt (simp (apart, op, slot, still-msr w) (λ addr. (refl, msr-back 0 (omega arith) op addr)))
+  msr-low op slot =
+      by-test (eqb (joined w 22 1 16 4) 0)
+      (λ none. settles (zeros 15 12 ∷ []) tt (simp (apart, op, slot, still-msr w) (λ addr. ((λ c. refl), msr-back 0 (omega arith) op none addr))))
+      (λ some. settles (filled 15 12 ∷ []) tt
+      (simp (apart, op, slot, still-masked w clear some) (λ addr. ((λ c. refl), msr-back 0 (omega arith) op some addr))))
+    where
+      clear : field w 22 1 ≡ 0
+      clear = omega (arith, splits w 20 3 2, splits w 22 2 1, small w 20 2, small w 22 1)
 
   msr-high : field w 20 5 ≡ 22 → Settles low dpImmOf w
-  msr-high op = settles (zeros 15 12 ∷ []) tt (simp (apart, op) (λ addr. (refl, msr-back 1 (omega arith) op addr)))
+  msr-high op = settles (filled 15 12 ∷ []) tt (simp (apart, op) (λ addr. ((λ c. refl), msr-back 1 (omega arith) op some addr)))
+    where
+      some : eqb (joined w 22 1 16 4) 0 ≡ false
+      some = ne-eqb (joined w 22 1 16 4) 0 (λ e. omega (arith, e, splits w 20 3 2, splits w 22 2 1, small w 20 2, small w 22 1))
 
 -- the operations
 module _ (w : ℕ) (bound : w < 2 ^ 32) (group : field w 25 3 ≡ 1)
@@ -129,7 +155,7 @@ module _ (w : ℕ) (bound : w < 2 ^ 32) (group : field w 25 3 ≡ 1)
       (λ is.
       settles (zeros 15 12 ∷ []) tt
       (λ addr. (
-        rd-keeps is addr,
+        λ c. rd-keeps is addr,
         simp (n16, n20, n18, n22, is) (compare-back w 1 bound group Next is (sets is) (zeros 15 12 ∷ []) refl (no-rd w 1 bound group)
             (immOf (field w 0 12) false) (value-gives false) addr),
       )))
@@ -138,7 +164,7 @@ module _ (w : ℕ) (bound : w < 2 ^ 32) (group : field w 25 3 ≡ 1)
       (λ op.
       settles (zeros 19 16 ∷ []) tt
       (λ addr. (
-        mov-keeps other op addr,
+        λ c. mov-keeps other op addr,
         simp (n16, n20, n18, n22, other, op)
             (move-back w 1 bound group (pcFlow w) 13 refl (λ x y. refl) op (λ a c f o. mov-puts w a c f o op) (immOf (field w 0 12) (toPc w))
             (value-gives (toPc w)) addr),
@@ -148,7 +174,7 @@ module _ (w : ℕ) (bound : w < 2 ^ 32) (group : field w 25 3 ≡ 1)
       (λ op.
       settles (zeros 19 16 ∷ []) tt
       (λ addr. (
-        mvn-keeps other op addr,
+        λ c. mvn-keeps other op addr,
         simp (n16, n20, n18, n22, other, op)
             (move-back w 1 bound group (pcFlow w) 15 refl (λ x y. refl) op (λ a c f o. mvn-puts w a c f o op) (immOf (field w 0 12) false)
             (value-gives false) addr),

@@ -144,7 +144,7 @@ module _ (w : ℕ) (bound : w < 2 ^ 32) (group : field w 25 3 ≡ 0) (control : 
       (λ next.
       settles (zeros 15 12 ∷ []) tt
       (λ addr. (
-        rd-keeps w addr is next,
+        λ c. rd-keeps w addr is next,
         simp (is, next) (compare-back w 0 bound group Next is (sets is) (zeros 15 12 ∷ []) refl (no-rd w 0 bound group) (sourceOf w)
             (source-gives w seven) addr),
       )))
@@ -153,14 +153,14 @@ module _ (w : ℕ) (bound : w < 2 ^ 32) (group : field w 25 3 ≡ 0) (control : 
   dp-reg-settles =
       by-value w 23 2 2 compares λ other.
       by-value w 21 4 13 (λ op. settles (zeros 19 16 ∷ []) tt (λ addr. (
-        mov-keeps w addr other op,
+        λ c. mov-keeps w addr other op,
         simp (other, op) (mov-back w bound group seven op addr),
       ))) λ n13.
       by-value w 21 4 15
       (λ op.
       settles (zeros 19 16 ∷ []) tt
       (λ addr. (
-        mvn-keeps w addr other op,
+        λ c. mvn-keeps w addr other op,
         simp (other, op) (move-back w 0 bound group (pcFlow w) 15 refl (λ x y. refl) op (λ a c f o. mvn-puts w a c f o op) (sourceOf w)
             (source-gives w seven) addr),
       )))

@@ -13,6 +13,8 @@ use Rattle.a32_ldst.specs.ExtraLdst.{imm8, subtractedIndexOf, extraLdstOf}
 use Rattle.a32_ldst.specs.Mem.{unprivilegedOf, modeOf, dispOf, minusZeroOf}
 use Rattle.insn_parts.specs.Operands.{signNumber, markNumber}
 use Rattle.insn_parts.specs.Parts.{bitU, bitW}
+use Rattle.encode_home.specs.declared.Filler.{Filler}
+use Rattle.encode_home.specs.declared.Filler.the-variants.{Manual, Zeros}
 use Rattle.encode_home.specs.Table.{zeros}
 use Rattle.encode_home.specs.Home.{putsOf}
 use Rattle.encode_home.specs.Word.{wordOf}
@@ -54,25 +56,25 @@ module _ (w : ℕ) (bound : w < 2 ^ 32) (group : field w 25 3 ≡ 0) (seven : fi
     indexed-word : {kind load : ℕ} → field w 5 2 ≡ kind → field w 20 1 ≡ load
         → join extra-layout (field w 0 4 ∷ 1 ∷ kind ∷ 1 ∷ 0 ∷ field w 12 4 ∷ field w 16 4 ∷ load ∷ field w 21 1 ∷ 0 ∷ 1 ∷ field w 24 1 ∷ 0 ∷
         field w 28 4 ∷ []) ≡ put w 8 4 0
-    indexed-word k l = simp (apart, group, seven, four, k, l, i, u) at (laid extra-layout (zeros 11 8 ∷ []) tt w bound refl)
+    indexed-word k l = simp (apart, group, seven, four, k, l, i, u) at (laid Zeros extra-layout (zeros 11 8 ∷ []) tt w bound refl)
 
     indexes : Settles low extraLdstOf w
     indexes = unfold putsOf wordOf in
         two-cases w 5
         (λ k. absurd (true≢false (simp k at other)))
         (λ k. bit-cases w 20
-        (λ l. settles (zeros 11 8 ∷ []) tt (simp (index-rules, post, i, k, l) (λ addr. (refl, (refl, refl, indexed-word k l)))))
-        (λ l. settles (zeros 11 8 ∷ []) tt (simp (index-rules, post, i, k, l) (λ addr. (refl, (refl, refl, indexed-word k l))))))
+        (λ l. settles (zeros 11 8 ∷ []) tt (simp (index-rules, post, i, k, l) (λ addr. ((λ c. refl), (refl, refl, indexed-word k l)))))
+        (λ l. settles (zeros 11 8 ∷ []) tt (simp (index-rules, post, i, k, l) (λ addr. ((λ c. refl), (refl, refl, indexed-word k l))))))
         (λ k. bit-cases w 20
         (λ l. by-test (eqb (field w 12 4 % 2) 1)
         (λ odd. refuses (λ addr ok. refusal (simp (post, plus, k, l, odd) at ok)))
-        (λ even. settles (zeros 11 8 ∷ []) tt (simp (index-rules, post, i, k, l, even) (λ addr. (refl, (refl, refl, indexed-word k l))))))
-        (λ l. settles (zeros 11 8 ∷ []) tt (simp (index-rules, post, i, k, l) (λ addr. (refl, (refl, refl, indexed-word k l))))))
+        (λ even. settles (zeros 11 8 ∷ []) tt (simp (index-rules, post, i, k, l, even) (λ addr. ((λ c. refl), (refl, refl, indexed-word k l))))))
+        (λ l. settles (zeros 11 8 ∷ []) tt (simp (index-rules, post, i, k, l) (λ addr. ((λ c. refl), (refl, refl, indexed-word k l))))))
         (λ k. bit-cases w 20
         (λ l. by-test (eqb (field w 12 4 % 2) 1)
         (λ odd. refuses (λ addr ok. refusal (simp (post, plus, k, l, odd) at ok)))
-        (λ even. settles (zeros 11 8 ∷ []) tt (simp (index-rules, post, i, k, l, even) (λ addr. (refl, (refl, refl, indexed-word k l))))))
-        (λ l. settles (zeros 11 8 ∷ []) tt (simp (index-rules, post, i, k, l) (λ addr. (refl, (refl, refl, indexed-word k l))))))
+        (λ even. settles (zeros 11 8 ∷ []) tt (simp (index-rules, post, i, k, l, even) (λ addr. ((λ c. refl), (refl, refl, indexed-word k l))))))
+        (λ l. settles (zeros 11 8 ∷ []) tt (simp (index-rules, post, i, k, l) (λ addr. ((λ c. refl), (refl, refl, indexed-word k l))))))
 
   module _ (i : field w 22 1 ≡ 1) where
     no-index : subtractedIndexOf w ≡ false

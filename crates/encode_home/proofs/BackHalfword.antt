@@ -11,6 +11,8 @@ use Rattle.word.specs.Layout.{join, whole}
 use Rattle.insn.specs.Roots.{name}
 use Rattle.a32_multiply.specs.Halfword.{halfOf, halvesOf, halfwordOf}
 use Rattle.a32_multiply.specs.Multiply.{productOf, addingOf, longOf}
+use Rattle.encode_home.specs.declared.Filler.{Filler}
+use Rattle.encode_home.specs.declared.Filler.the-variants.{Manual, Zeros}
 use Rattle.encode_home.specs.Table.{zeros}
 use Rattle.encode_home.specs.Home.{putsOf}
 use Rattle.encode_home.specs.Word.{wordOf}
@@ -50,7 +52,7 @@ module _ (w : ℕ) (bound : w < 2 ^ 32) (group : field w 25 3 ≡ 0) (ten : fiel
   whole-word = simp (group, twenty, p) at (whole layout w bound)
 
   whole-home : join layout (field w 0 4 ∷ field w 4 4 ∷ field w 8 4 ∷ 0 ∷ field w 16 4 ∷ field w 21 2 * 2 ∷ 1 ∷ 0 ∷ field w 28 4 ∷ []) ≡ put w 12 4 0
-  whole-home = simp (apart, group, twenty, p) at (laid layout (zeros 15 12 ∷ []) tt w bound refl)
+  whole-home = simp (apart, group, twenty, p) at (laid Zeros layout (zeros 15 12 ∷ []) tt w bound refl)
 
   -- a name at its place, whatever the halves
   module _ (n : ℕ) (is : n ≡ name "smlabb" + place) where
@@ -117,7 +119,7 @@ module _ (w : ℕ) (bound : w < 2 ^ 32) (group : field w 25 3 ≡ 0) (ten : fiel
       (half-to (name "smlawb") 138 (omega arith)))))
       (λ x. settles (zeros 15 12 ∷ []) tt
       (simp (apart, op, x) (λ addr. (
-        refl,
+        (λ c. refl),
         product (halfOf w (name "smulwb")) (omega arith) (simp op) (half-from (name "smulwb") 133 (omega arith))
             (half-to (name "smulwb") 148 (omega arith)) addr
             (smulw-puts (halfOf w (name "smulwb")) addr (half-from (name "smulwb") 139 (omega arith)) (half-to (name "smulwb") 140 (omega arith))),
@@ -126,7 +128,7 @@ module _ (w : ℕ) (bound : w < 2 ^ 32) (group : field w 25 3 ≡ 0) (ten : fiel
       (halves-to (name "smlalbb") 144 (omega arith)))))
       (λ op. settles (zeros 15 12 ∷ []) tt
       (simp (apart, op) (λ addr. (
-        refl,
+        (λ c. refl),
         product (halvesOf w (name "smulbb")) (omega arith) (simp op) (halves-from (name "smulbb") 133 (omega arith))
             (halves-to (name "smulbb") 148 (omega arith)) addr
             (smul-puts (halvesOf w (name "smulbb")) addr (halves-from (name "smulbb") 145 (omega arith))

@@ -15,6 +15,8 @@ use Rattle.a32_ldst.specs.Mem.{unprivilegedOf, modeOf, postOf, dispOf, minusZer
 use Rattle.a32_ldst.specs.Ldst.{nameOf, refusedIndexOf, markedOf, ldstOf}
 use Rattle.insn_parts.specs.Operands.{signNumber, markNumber}
 use Rattle.insn_parts.specs.Parts.{bitP, bitU}
+use Rattle.encode_home.specs.declared.Filler.{Filler}
+use Rattle.encode_home.specs.declared.Filler.the-variants.{Manual, Zeros}
 use Rattle.encode_home.specs.Table.{ones}
 use Rattle.encode_home.specs.Home.{putsOf}
 use Rattle.encode_home.specs.Word.{wordOf}
@@ -121,12 +123,12 @@ module _ (w : ℕ) (bound : w < 2 ^ 32) (group : field w 26 2 ≡ 1) where
       raises = unfold putsOf wordOf refusedIndexOf offset12 addedBit in
           settles (ones 23 23 ∷ []) tt
           (λ addr. (
-            keeps addr,
+            λ c. keeps addr,
             (
               simp form0,
               simp (form0, from-82 w, to-89 w, over-81 w, under-90 w, p, b, none),
               simp (form0, to-89 w, over-81 w, magnitude-back w, up, name-tells w .0, name-tells w .1, has-W w, has-P w)
-                  (simp (apart, group, form0) at (laid layout (ones 23 23 ∷ []) tt w bound refl)),
+                  (simp (apart, group, form0) at (laid Zeros layout (ones 23 23 ∷ []) tt w bound refl)),
             ),
           ))
 

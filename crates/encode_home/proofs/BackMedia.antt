@@ -21,7 +21,9 @@ use Rattle.insn.specs.declared.Operand.the-variants.{Register}
 use Rattle.insn.specs.declared.Reg.{Reg}
 use Rattle.a32_media.specs.Media.{mediaOf, udfOf, bfxOf, bfOf, divOf, ssatOf, usatOf, satOr, satShiftOf, revOf, rotateOf, extendOf, revOrExtendOf}
 use Rattle.insn_parts.specs.Operands.{operandFlat}
-use Rattle.encode_home.specs.Table.{Put, zeros}
+use Rattle.encode_home.specs.declared.Filler.{Filler}
+use Rattle.encode_home.specs.declared.Filler.the-variants.{Manual, Zeros}
+use Rattle.encode_home.specs.Table.{Put, filled}
 use Rattle.encode_home.specs.Home.{putsOf, putAll}
 use Rattle.encode_home.specs.Word.{wordOf}
 use Rattle.encode_home.specs.WordMedia.{udfLayout, bitsLayout, layout, satLayout, bfxWord, divWord, revWord, extendWord, addExtendWord, laidAs}
@@ -65,7 +67,7 @@ Laid name ps word =
 
 module _ (w : ℕ) (bound : w < 2 ^ 32) (group : field w 25 3 ≡ 3) (bit4 : field w 4 1 ≡ 1) where
   back : (name : ℕ) (ps : List Put) (word : Insn → ℕ) → Laid name ps word → (addr : ℕ) (c : Cond) (rd : Reg) (x y z : Operand)
-      → word (insnOf addr name c Next (places (Register rd ∷ x ∷ y ∷ z ∷ []))) ≡ putAll ps w
+      → word (insnOf addr name c Next (places (Register rd ∷ x ∷ y ∷ z ∷ []))) ≡ putAll Zeros ps w
       → Back ps w (accepted (insnOf addr name c Next (places (Register rd ∷ x ∷ y ∷ z ∷ []))))
   back name ps word named addr c rd x y z is = (refl, named addr c rd x y z .0, named addr c rd x y z .1 ∙ is)
 
@@ -98,14 +100,14 @@ module _ (w : ℕ) (bound : w < 2 ^ 32) (group : field w 25 3 ≡ 3) (bit4 : fie
       (λ is. refuses (λ addr ok. refusal (simp is at ok)))
 
   -- "17 sdiv, 19 udiv"
-  div : (name op : ℕ) → Laid name (zeros 15 12 ∷ []) (divWord op) → field w 20 5 ≡ op → Settles low (λ v addr. divOf v addr name) w
+  div : (name op : ℕ) → Laid name (filled 15 12 ∷ []) (divWord op) → field w 20 5 ≡ op → Settles low (λ v addr. divOf v addr name) w
   div name op named is-op =
       by-value w 5 3 0
-      (λ is. settles (zeros 15 12 ∷ []) tt (simp (apart, is) (λ addr. (refl, back name (zeros 15 12 ∷ []) (divWord op) named _ _ _ _ _ _ (word is)))))
+      (λ is. settles (filled 15 12 ∷ []) tt (simp (apart, is) (λ addr. ((λ c. refl), back name (filled 15 12 ∷ []) (divWord op) named _ _ _ _ _ _ (word is)))))
       (λ is. refuses (λ addr ok. refusal (simp is at ok)))
     where
       word : field w 5 3 ≡ 0 → join layout (field w 0 4 ∷ 1 ∷ 0 ∷ field w 8 4 ∷ 0 ∷ field w 16 4 ∷ op ∷ 3 ∷ field w 28 4 ∷ []) ≡ put w 12 4 0
-      word zero = simp (apart, group, bit4, zero, is-op) at (laid layout (zeros 15 12 ∷ []) tt w bound refl)
+      word zero = simp (apart, group, bit4, zero, is-op) at (laid Zeros layout (filled 15 12 ∷ []) tt w bound refl)
 
   -- a saturate "with 5:4 = 01", or another row
   sat-word : {op : ℕ} → field w 21 4 ≡ op → field w 4 2 ≡ 1
@@ -114,7 +116,7 @@ module _ (w : ℕ) (bound : w < 2 ^ 32) (group : field w 25 3 ≡ 3) (bit4 : fie
 
   unsaturated : (sat : ℕ → ℕ → Decoded) {other : ℕ → ℕ → Decoded} → Settles low other w → eqb (field w 4 2) 1 ≡ false
       → Settles low (λ v addr. satOr v (sat v addr) (other v addr)) w
-  unsaturated sat rows not-01 = leads-to rows (λ ps t addr. simp (keeps-middle 4 2 refl refl ps t w, not-01))
+  unsaturated sat rows not-01 = leads-to rows (λ c ps t addr. simp (keeps-middle c 4 2 refl refl ps t w, not-01))
 
   ssat-or : {other : ℕ → ℕ → Decoded} → field w 21 4 ≡ 5 → Settles low other w → Settles low (λ v addr. satOr v (ssatOf v addr) (other v addr)) w
   ssat-or op rows = unfold putsOf wordOf laidAs in
@@ -173,12 +175,12 @@ module _ (w : ℕ) (bound : w < 2 ^ 32) (group : field w 25 3 ≡ 3) (bit4 : fie
       → Settles low (λ v addr. revOrExtendOf v addr rev1 rev5 plain adding) w
   rev-or-extend rev1 rev5 plain adding op named1 named5 named named-adding is-op =
       by-value w 5 3 1
-      (λ e. leads-to (rev rev1 op 1 named1 is-op e) (λ ps t addr. simp (keeps-middle 5 3 refl refl ps t w, e)))
+      (λ e. leads-to (rev rev1 op 1 named1 is-op e) (λ c ps t addr. simp (keeps-middle c 5 3 refl refl ps t w, e)))
       λ n1.
       by-value w 5 3 5
-      (λ e. leads-to (rev rev5 op 5 named5 is-op e) (λ ps t addr. simp (keeps-middle 5 3 refl refl ps t w, e)))
+      (λ e. leads-to (rev rev5 op 5 named5 is-op e) (λ c ps t addr. simp (keeps-middle c 5 3 refl refl ps t w, e)))
       λ n5.
-      leads-to (extend plain adding op named named-adding is-op) (λ ps t addr. simp (keeps-middle 5 3 refl refl ps t w, n1, n5))
+      leads-to (extend plain adding op named named-adding is-op) (λ c ps t addr. simp (keeps-middle c 5 3 refl refl ps t w, n1, n5))
 
   -- "31, 111", or ubfx
   udf-or-bfx : field w 20 5 ≡ 31 → Laid (name "ubfx") [] (bfxWord 15) → Settles low mediaOf w
@@ -186,35 +188,35 @@ module _ (w : ℕ) (bound : w < 2 ^ 32) (group : field w 25 3 ≡ 3) (bit4 : fie
       by-value w 5 3 7
       (λ e. reads (simp (op, e) (udf op e)))
       (λ e. leads-to (bfx (name "ubfx") 15 named (op-upper w 31 op))
-      (λ ps t addr. simp (keeps-upper 20 5 refl ps t w, keeps-middle 5 3 refl refl ps t w, op, e)))
+      (λ c ps t addr. simp (keeps-upper c 20 5 refl ps t w, keeps-middle c 5 3 refl refl ps t w, op, e)))
 
   pub media-settles : Settles low mediaOf w
   media-settles = unfold putsOf wordOf laidAs in
       by-value w 20 5 31 (λ op. udf-or-bfx op (λ a c r x y z. (refl, refl))) λ n31.
       by-value w 20 5 26 (λ op. leads-to (bfx (name "sbfx") 13 (λ a c r x y z. (refl, refl)) (op-upper w 26 op))
-      (λ ps t addr. simp (keeps-upper 20 5 refl ps t w, op))) λ n26.
+      (λ c ps t addr. simp (keeps-upper c 20 5 refl ps t w, op))) λ n26.
       by-value w 20 5 27 (λ op. leads-to (bfx (name "sbfx") 13 (λ a c r x y z. (refl, refl)) (op-upper w 27 op))
-      (λ ps t addr. simp (keeps-upper 20 5 refl ps t w, op))) λ n27.
+      (λ c ps t addr. simp (keeps-upper c 20 5 refl ps t w, op))) λ n27.
       by-value w 20 5 30 (λ op. leads-to (bfx (name "ubfx") 15 (λ a c r x y z. (refl, refl)) (op-upper w 30 op))
-      (λ ps t addr. simp (keeps-upper 20 5 refl ps t w, op))) λ n30.
-      by-value w 20 5 28 (λ op. leads-to (bf (op-upper w 28 op)) (λ ps t addr. simp (keeps-upper 20 5 refl ps t w, op))) λ n28.
-      by-value w 20 5 29 (λ op. leads-to (bf (op-upper w 29 op)) (λ ps t addr. simp (keeps-upper 20 5 refl ps t w, op))) λ n29.
+      (λ c ps t addr. simp (keeps-upper c 20 5 refl ps t w, op))) λ n30.
+      by-value w 20 5 28 (λ op. leads-to (bf (op-upper w 28 op)) (λ c ps t addr. simp (keeps-upper c 20 5 refl ps t w, op))) λ n28.
+      by-value w 20 5 29 (λ op. leads-to (bf (op-upper w 29 op)) (λ c ps t addr. simp (keeps-upper c 20 5 refl ps t w, op))) λ n29.
       by-value w 20 5 17 (λ op. leads-to (div (name "sdiv") 17 (λ a c r x y z. (refl, refl)) op)
-      (λ ps t addr. simp (keeps-upper 20 5 refl ps t w, op))) λ n17.
+      (λ c ps t addr. simp (keeps-upper c 20 5 refl ps t w, op))) λ n17.
       by-value w 20 5 19 (λ op. leads-to (div (name "udiv") 19 (λ a c r x y z. (refl, refl)) op)
-      (λ ps t addr. simp (keeps-upper 20 5 refl ps t w, op))) λ n19.
+      (λ c ps t addr. simp (keeps-upper c 20 5 refl ps t w, op))) λ n19.
       by-value w 20 5 10 (λ op. leads-to (ssat-or (op-upper w 10 op) (extend (name "sxtb") (name "sxtab") 10 (λ a c r x y z. (refl, refl))
-      (λ a c r x y z. (refl, refl)) op)) (λ ps t addr. simp (keeps-upper 20 5 refl ps t w, op))) λ n10.
+      (λ a c r x y z. (refl, refl)) op)) (λ c ps t addr. simp (keeps-upper c 20 5 refl ps t w, op))) λ n10.
       by-value w 20 5 11 (λ op. leads-to (ssat-or (op-upper w 11 op) (rev-or-extend (name "rev") (name "rev16") (name "sxth") (name "sxtah") 11
       (λ a c r x y z. (refl, refl)) (λ a c r x y z. (refl, refl)) (λ a c r x y z. (refl, refl)) (λ a c r x y z. (refl, refl)) op))
-      (λ ps t addr. simp (keeps-upper 20 5 refl ps t w, op))) λ n11.
+      (λ c ps t addr. simp (keeps-upper c 20 5 refl ps t w, op))) λ n11.
       by-value w 20 5 14 (λ op. leads-to (usat-or (op-upper w 14 op) (extend (name "uxtb") (name "uxtab") 14 (λ a c r x y z. (refl, refl))
-      (λ a c r x y z. (refl, refl)) op)) (λ ps t addr. simp (keeps-upper 20 5 refl ps t w, op))) λ n14.
+      (λ a c r x y z. (refl, refl)) op)) (λ c ps t addr. simp (keeps-upper c 20 5 refl ps t w, op))) λ n14.
       by-value w 20 5 15 (λ op. leads-to (usat-or (op-upper w 15 op) (rev-or-extend (name "rbit") (name "revsh") (name "uxth") (name "uxtah") 15
       (λ a c r x y z. (refl, refl)) (λ a c r x y z. (refl, refl)) (λ a c r x y z. (refl, refl)) (λ a c r x y z. (refl, refl)) op))
-      (λ ps t addr. simp (keeps-upper 20 5 refl ps t w, op))) λ n15.
+      (λ c ps t addr. simp (keeps-upper c 20 5 refl ps t w, op))) λ n15.
       by-value w 20 5 8 (λ op. leads-to (extend (name "sxtb16") (name "sxtab16") 8 (λ a c r x y z. (refl, refl)) (λ a c r x y z. (refl, refl)) op)
-      (λ ps t addr. simp (keeps-upper 20 5 refl ps t w, op))) λ n8.
+      (λ c ps t addr. simp (keeps-upper c 20 5 refl ps t w, op))) λ n8.
       by-value w 20 5 12 (λ op. leads-to (extend (name "uxtb16") (name "uxtab16") 12 (λ a c r x y z. (refl, refl)) (λ a c r x y z. (refl, refl)) op)
-      (λ ps t addr. simp (keeps-upper 20 5 refl ps t w, op))) λ n12.
+      (λ c ps t addr. simp (keeps-upper c 20 5 refl ps t w, op))) λ n12.
       refuses (λ addr ok. refusal (simp (n31, n26, n27, n30, n28, n29, n17, n19, n10, n11, n14, n15, n8, n12) at ok))

@@ -6,7 +6,9 @@ use Rattle.word.specs.Field.{field, put}
 use Rattle.word.specs.Layout.{join, whole, upper, lower}
 use Rattle.a32_misc.specs.Misc.{sourceOf, miscOf}
 use Rattle.insn_parts.specs.Operands.{operandFlat}
-use Rattle.encode_home.specs.Table.{Put, zeros}
+use Rattle.encode_home.specs.declared.Filler.{Filler}
+use Rattle.encode_home.specs.declared.Filler.the-variants.{Manual, Zeros}
+use Rattle.encode_home.specs.Table.{Put, zeros, filled}
 use Rattle.encode_home.specs.Home.{putsOf}
 use Rattle.encode_home.specs.Word.{wordOf}
 use Rattle.encode_home.specs.WordMisc.{status-layout, single-layout, several-layout}
@@ -19,7 +21,7 @@ module _ (w : ℕ) (bound : w < 2 ^ 32) (group : field w 25 3 ≡ 0) (ten : fiel
   mrs e m nine =
       settles ignored tt
       (simp (apart, e, m, nine, source) (λ addr. (
-        refl,
+        (λ c. refl),
         (
           refl,
           refl,
@@ -32,12 +34,12 @@ module _ (w : ℕ) (bound : w < 2 ^ 32) (group : field w 25 3 ≡ 0) (ten : fiel
             e,
             m,
             nine,
-          ) at (laid status-layout ignored tt w bound refl),
+          ) at (laid Zeros status-layout ignored tt w bound refl),
         ),
       )))
     where
       ignored : List Put
-      ignored = zeros 19 16 ∷ zeros 11 10 ∷ zeros 8 8 ∷ zeros 3 0 ∷ []
+      ignored = filled 19 16 ∷ zeros 11 10 ∷ zeros 8 8 ∷ zeros 3 0 ∷ []
 
       source : operandFlat (sourceOf w) .how ≡ field w 22 1
       source = bit-cases w 22 (λ r. simp r) (λ r. simp r)
@@ -47,10 +49,10 @@ module _ (w : ℕ) (bound : w < 2 ^ 32) (group : field w 25 3 ≡ 0) (ten : fiel
   msr e m nine =
       settles ignored tt
       (simp (apart, e, m, nine, upper w 22 1 16 4, lower w 22 1 16 4)
-      (λ addr. (refl, (refl, refl, simp (apart, group, ten, s, seven, e, m, nine) at (laid status-layout ignored tt w bound refl)))))
+      (λ addr. ((λ c. refl), (refl, refl, simp (apart, group, ten, s, seven, e, m, nine) at (laid Zeros status-layout ignored tt w bound refl)))))
     where
       ignored : List Put
-      ignored = zeros 15 12 ∷ zeros 11 10 ∷ zeros 8 8 ∷ []
+      ignored = filled 15 12 ∷ zeros 11 10 ∷ zeros 8 8 ∷ []
 
   status : field w 4 3 ≡ 0 → Settles low miscOf w
   status e =
@@ -60,38 +62,38 @@ module _ (w : ℕ) (bound : w < 2 ^ 32) (group : field w 25 3 ≡ 0) (ten : fiel
   -- bx, bxj and blx
   exchanges : (kind : ℕ) → field w 4 3 ≡ kind → field w 21 2 ≡ 1
       → join single-layout (field w 0 4 ∷ kind ∷ 0 ∷ 0 ∷ 0 ∷ 1 ∷ 2 ∷ 0 ∷ field w 28 4 ∷ []) ≡ put w 8 12 0
-  exchanges kind e op = simp (apart, group, ten, s, seven, e, op) at (laid single-layout (zeros 19 8 ∷ []) tt w bound refl)
+  exchanges kind e op = simp (apart, group, ten, s, seven, e, op) at (laid Zeros single-layout (filled 19 8 ∷ []) tt w bound refl)
 
   bx : field w 4 3 ≡ 1 → field w 21 2 ≡ 1 → Settles low miscOf w
-  bx e op = unfold putsOf wordOf in settles (zeros 19 8 ∷ []) tt (simp (apart, e, op) (λ addr. (refl, (refl, refl, exchanges 1 e op))))
+  bx e op = unfold putsOf wordOf in settles (filled 19 8 ∷ []) tt (simp (apart, e, op) (λ addr. ((λ c. refl), (refl, refl, exchanges 1 e op))))
 
   bxj : field w 4 3 ≡ 2 → field w 21 2 ≡ 1 → Settles low miscOf w
-  bxj e op = unfold putsOf wordOf in settles (zeros 19 8 ∷ []) tt (simp (apart, e, op) (λ addr. (refl, (refl, refl, exchanges 2 e op))))
+  bxj e op = unfold putsOf wordOf in settles (filled 19 8 ∷ []) tt (simp (apart, e, op) (λ addr. ((λ c. refl), (refl, refl, exchanges 2 e op))))
 
   blx : field w 4 3 ≡ 3 → field w 21 2 ≡ 1 → Settles low miscOf w
-  blx e op = unfold putsOf wordOf in settles (zeros 19 8 ∷ []) tt (simp (apart, e, op) (λ addr. (refl, (refl, refl, exchanges 3 e op))))
+  blx e op = unfold putsOf wordOf in settles (filled 19 8 ∷ []) tt (simp (apart, e, op) (λ addr. ((λ c. refl), (refl, refl, exchanges 3 e op))))
 
   clz : field w 4 3 ≡ 1 → field w 21 2 ≡ 3 → Settles low miscOf w
   unfolding putsOf wordOf
   clz e op =
       settles ignored tt
-      (simp (apart, e, op) (λ addr. (refl, (refl, refl, simp (apart, group, ten, s, seven, e, op) at (laid several-layout ignored tt w bound refl)))))
+      (simp (apart, e, op) (λ addr. ((λ c. refl), (refl, refl, simp (apart, group, ten, s, seven, e, op) at (laid Zeros several-layout ignored tt w bound refl)))))
     where
       ignored : List Put
-      ignored = zeros 19 16 ∷ zeros 11 8 ∷ []
+      ignored = filled 19 16 ∷ filled 11 8 ∷ []
 
   saturating : field w 4 3 ≡ 5 → Settles low miscOf w
   unfolding putsOf wordOf
   saturating e =
       two-cases w 21
-      (λ op. settles (zeros 11 8 ∷ []) tt (simp (apart, e, op) (λ addr. (refl, (refl, refl, adds 0 op)))))
-      (λ op. settles (zeros 11 8 ∷ []) tt (simp (apart, e, op) (λ addr. (refl, (refl, refl, adds 1 op)))))
-      (λ op. settles (zeros 11 8 ∷ []) tt (simp (apart, e, op) (λ addr. (refl, (refl, refl, adds 2 op)))))
-      (λ op. settles (zeros 11 8 ∷ []) tt (simp (apart, e, op) (λ addr. (refl, (refl, refl, adds 3 op)))))
+      (λ op. settles (zeros 11 8 ∷ []) tt (simp (apart, e, op) (λ addr. ((λ c. refl), (refl, refl, adds 0 op)))))
+      (λ op. settles (zeros 11 8 ∷ []) tt (simp (apart, e, op) (λ addr. ((λ c. refl), (refl, refl, adds 1 op)))))
+      (λ op. settles (zeros 11 8 ∷ []) tt (simp (apart, e, op) (λ addr. ((λ c. refl), (refl, refl, adds 2 op)))))
+      (λ op. settles (zeros 11 8 ∷ []) tt (simp (apart, e, op) (λ addr. ((λ c. refl), (refl, refl, adds 3 op)))))
     where
       adds : (n : ℕ) → field w 21 2 ≡ n
           → join several-layout (field w 0 4 ∷ 5 ∷ 0 ∷ 0 ∷ field w 12 4 ∷ field w 16 4 ∷ 0 ∷ n ∷ 2 ∷ 0 ∷ field w 28 4 ∷ []) ≡ put w 8 4 0
-      adds n op = simp (apart, group, ten, s, seven, e, op) at (laid several-layout (zeros 11 8 ∷ []) tt w bound refl)
+      adds n op = simp (apart, group, ten, s, seven, e, op) at (laid Zeros several-layout (zeros 11 8 ∷ []) tt w bound refl)
 
   bkpt : field w 4 3 ≡ 7 → field w 21 2 ≡ 1 → Settles low miscOf w
   bkpt e op = unfold putsOf wordOf in

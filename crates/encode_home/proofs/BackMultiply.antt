@@ -7,7 +7,9 @@ use Rattle.word.specs.Field.{field, put, splits}
 use Rattle.word.specs.Layout.{join, whole}
 use Rattle.a32_multiply.specs.Multiply.{multiplyOf}
 use Rattle.a32_multiply.specs.Sync.{syncOf}
-use Rattle.encode_home.specs.Table.{Put, zeros}
+use Rattle.encode_home.specs.declared.Filler.{Filler}
+use Rattle.encode_home.specs.declared.Filler.the-variants.{Manual, Zeros}
+use Rattle.encode_home.specs.Table.{Put, zeros, filled}
 use Rattle.encode_home.specs.Home.{putsOf, putAll}
 use Rattle.encode_home.specs.Word.{wordOf}
 use Rattle.encode_home.specs.WordMultiply.{layout}
@@ -29,13 +31,13 @@ module _ (w : ℕ) (bound : w < 2 ^ 32) (group : field w 25 3 ≡ 0) (seven : fi
 
     whole-home : {op s : ℕ} → field w 21 3 ≡ op → field w 20 1 ≡ s
         → join layout (field w 0 4 ∷ 9 ∷ field w 8 4 ∷ 0 ∷ field w 16 4 ∷ (op * 2 + s) ∷ 0 ∷ 0 ∷ field w 28 4 ∷ []) ≡ put w 12 4 0
-    whole-home is-op is-s = simp (apart, group, nine, p, twenty is-op is-s) at (laid layout (zeros 15 12 ∷ []) tt w bound refl)
+    whole-home is-op is-s = simp (apart, group, nine, p, twenty is-op is-s) at (laid Zeros layout (zeros 15 12 ∷ []) tt w bound refl)
 
     pub multiply-settles : Settles low multiplyOf w
     multiply-settles = unfold putsOf wordOf in
         by-value w 21 3 0 (λ op. bit-cases w 20
-        (λ s. settles (zeros 15 12 ∷ []) tt (simp (apart, op, s) (λ addr. (refl, (refl, refl, whole-home op s)))))
-        (λ s. settles (zeros 15 12 ∷ []) tt (simp (apart, op, s) (λ addr. (refl, (refl, refl, whole-home op s))))))
+        (λ s. settles (zeros 15 12 ∷ []) tt (simp (apart, op, s) (λ addr. ((λ c. refl), (refl, refl, whole-home op s)))))
+        (λ s. settles (zeros 15 12 ∷ []) tt (simp (apart, op, s) (λ addr. ((λ c. refl), (refl, refl, whole-home op s))))))
         λ n0.
         by-value w 21 3 1 (λ op. bit-cases w 20 (λ s. reads (simp (op, s) (λ addr. (refl, refl, whole-word op s))))
         (λ s. reads (simp (op, s) (λ addr. (refl, refl, whole-word op s)))))
@@ -63,24 +65,24 @@ module _ (w : ℕ) (bound : w < 2 ^ 32) (group : field w 25 3 ≡ 0) (seven : fi
   -- the exclusives, whose stores ignore 11:8, and whose loads 3:0 too
   module _ (p : field w 24 1 ≡ 1) where
     abbrev stores : List Put
-    stores = zeros 11 8 ∷ []
+    stores = filled 11 8 ∷ []
 
     abbrev loads : List Put
-    loads = zeros 11 8 ∷ zeros 3 0 ∷ []
+    loads = filled 11 8 ∷ filled 3 0 ∷ []
 
     stored : {n : ℕ} → field w 20 4 ≡ n
-        → join layout (field w 0 4 ∷ 9 ∷ 0 ∷ field w 12 4 ∷ field w 16 4 ∷ n ∷ 1 ∷ 0 ∷ field w 28 4 ∷ []) ≡ putAll stores w
-    stored op = simp (apart, group, nine, p, op) at (laid layout stores tt w bound refl)
+        → join layout (field w 0 4 ∷ 9 ∷ 0 ∷ field w 12 4 ∷ field w 16 4 ∷ n ∷ 1 ∷ 0 ∷ field w 28 4 ∷ []) ≡ putAll Zeros stores w
+    stored op = simp (apart, group, nine, p, op) at (laid Zeros layout stores tt w bound refl)
 
-    loaded : {n : ℕ} → field w 20 4 ≡ n → join layout (0 ∷ 9 ∷ 0 ∷ field w 12 4 ∷ field w 16 4 ∷ n ∷ 1 ∷ 0 ∷ field w 28 4 ∷ []) ≡ putAll loads w
-    loaded op = simp (apart, group, nine, p, op) at (laid layout loads tt w bound refl)
+    loaded : {n : ℕ} → field w 20 4 ≡ n → join layout (0 ∷ 9 ∷ 0 ∷ field w 12 4 ∷ field w 16 4 ∷ n ∷ 1 ∷ 0 ∷ field w 28 4 ∷ []) ≡ putAll Zeros loads w
+    loaded op = simp (apart, group, nine, p, op) at (laid Zeros layout loads tt w bound refl)
 
     pub sync-settles : Settles low syncOf w
     sync-settles = unfold putsOf wordOf in
-        by-value w 20 4 8 (λ op. settles stores tt (simp (apart, op) (λ addr. (refl, (refl, refl, stored op))))) λ n8.
-        by-value w 20 4 9 (λ op. settles loads tt (simp (apart, op) (λ addr. (refl, (refl, refl, loaded op))))) λ n9.
-        by-value w 20 4 12 (λ op. settles stores tt (simp (apart, op) (λ addr. (refl, (refl, refl, stored op))))) λ n12.
-        by-value w 20 4 13 (λ op. settles loads tt (simp (apart, op) (λ addr. (refl, (refl, refl, loaded op))))) λ n13.
-        by-value w 20 4 14 (λ op. settles stores tt (simp (apart, op) (λ addr. (refl, (refl, refl, stored op))))) λ n14.
-        by-value w 20 4 15 (λ op. settles loads tt (simp (apart, op) (λ addr. (refl, (refl, refl, loaded op))))) λ n15.
+        by-value w 20 4 8 (λ op. settles stores tt (simp (apart, op) (λ addr. ((λ c. refl), (refl, refl, stored op))))) λ n8.
+        by-value w 20 4 9 (λ op. settles loads tt (simp (apart, op) (λ addr. ((λ c. refl), (refl, refl, loaded op))))) λ n9.
+        by-value w 20 4 12 (λ op. settles stores tt (simp (apart, op) (λ addr. ((λ c. refl), (refl, refl, stored op))))) λ n12.
+        by-value w 20 4 13 (λ op. settles loads tt (simp (apart, op) (λ addr. ((λ c. refl), (refl, refl, loaded op))))) λ n13.
+        by-value w 20 4 14 (λ op. settles stores tt (simp (apart, op) (λ addr. ((λ c. refl), (refl, refl, stored op))))) λ n14.
+        by-value w 20 4 15 (λ op. settles loads tt (simp (apart, op) (λ addr. ((λ c. refl), (refl, refl, loaded op))))) λ n15.
         refuses (λ addr ok. refusal (simp (n8, n9, n12, n13, n14, n15) at ok))

@@ -16,7 +16,9 @@ use Rattle.a32_ldst.specs.Mem.{dispOf}
 use Rattle.a32_transfer.specs.Unconditional.{barrierSlot, preloadSlot, unconditionalOf}
 use Rattle.insn_parts.specs.Operands.{signNumber}
 use Rattle.insn_parts.specs.Parts.{up}
-use Rattle.encode_home.specs.Table.{zeros, ones}
+use Rattle.encode_home.specs.declared.Filler.{Filler}
+use Rattle.encode_home.specs.declared.Filler.the-variants.{Manual, Zeros}
+use Rattle.encode_home.specs.Table.{filled, drawn, number, ones}
 use Rattle.encode_home.specs.Home.{putsOf}
 use Rattle.encode_home.specs.Word.{wordOf}
 use Rattle.encode_home.specs.WordTransfer.{preloadLayout, barrierLayout}
@@ -68,14 +70,14 @@ module _ (w : ℕ) (bound : w < 2 ^ 32) (five : field w 24 4 ≡ 5) (pc : field 
       settles (ones 23 23 ∷ []) tt
       (bit-cases w 22
       (λ r. bit-cases w 23
-      (λ u. simp (ways, still-no-barrier, raised-slot, apart, z, r, u) (λ addr. (refl, (refl, refl, word r))))
-      (λ u. simp (ways, still-no-barrier, raised-slot, apart, z, r, u) (λ addr. (refl, (refl, refl, word r)))))
+      (λ u. simp (ways, still-no-barrier, raised-slot, apart, z, r, u) (λ addr. ((λ c. refl), (refl, refl, word r))))
+      (λ u. simp (ways, still-no-barrier, raised-slot, apart, z, r, u) (λ addr. ((λ c. refl), (refl, refl, word r)))))
       (λ r. bit-cases w 23
-      (λ u. simp (ways, still-no-barrier, raised-slot, apart, z, r, u) (λ addr. (refl, (refl, refl, word r))))
-      (λ u. simp (ways, still-no-barrier, raised-slot, apart, z, r, u) (λ addr. (refl, (refl, refl, word r))))))
+      (λ u. simp (ways, still-no-barrier, raised-slot, apart, z, r, u) (λ addr. ((λ c. refl), (refl, refl, word r))))
+      (λ u. simp (ways, still-no-barrier, raised-slot, apart, z, r, u) (λ addr. ((λ c. refl), (refl, refl, word r))))))
     where
       word : {r : ℕ} → field w 22 1 ≡ r → join preloadLayout (0 ∷ 15 ∷ field w 16 4 ∷ 1 ∷ r ∷ 1 ∷ 5 ∷ field w 28 4 ∷ []) ≡ put w 23 1 1
-      word r = simp (apart, five, pc, kind, z, r) at (laid preloadLayout (ones 23 23 ∷ []) tt w bound refl)
+      word r = simp (apart, five, pc, kind, z, r) at (laid Zeros preloadLayout (ones 23 23 ∷ []) tt w bound refl)
 
   some : eqb (field w 0 12) 0 ≡ false → Settles good unconditionalOf w
   unfolding putsOf wordOf
@@ -105,17 +107,17 @@ module _ (w : ℕ) (bound : w < 2 ^ 32) (is-barrier : field w 8 20 ≡ 0x57ff0) 
   is-slot : barrierSlot w ≡ true
   is-slot = slotted w is-barrier
 
-  still-slot : barrierSlot (put w 0 4 0) ≡ true
-  still-slot = slotted (put w 0 4 0) (simp apart is-barrier)
+  still-slot : (c : Filler) → barrierSlot (put w 0 4 (number c drawn 4)) ≡ true
+  still-slot c = slotted (put w 0 4 (number c drawn 4)) (simp apart is-barrier)
 
   there : eqb (field w 25 3) 5 ≡ false
   there = barrier-no-blx w is-barrier
 
   clrex : field w 4 4 ≡ 1 → Settles good unconditionalOf w
   clrex op = unfold putsOf wordOf in
-      settles (zeros 3 0 ∷ []) tt
+      settles (filled 3 0 ∷ []) tt
       (simp (there, is-slot, still-slot, apart, op)
-      (λ addr. (refl, (refl, refl, simp (apart, is-barrier, op) at (laid barrierLayout (zeros 3 0 ∷ []) tt w bound refl)))))
+      (λ addr. ((λ c. refl), (refl, refl, simp (apart, is-barrier, op) at (laid Zeros barrierLayout (filled 3 0 ∷ []) tt w bound refl)))))
 
   -- dsb, dmb and isb
   optioned : {n : ℕ} → field w 4 4 ≡ n → join barrierLayout (field w 0 4 ∷ n ∷ 0x57ff0 ∷ field w 28 4 ∷ []) ≡ w

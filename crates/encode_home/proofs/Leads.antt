@@ -2,43 +2,57 @@
 use mathlib.Core.Path.{_≡_, refl, ap, sym, _∙_, subst}
 use mathlib.Core.Bool.{Bool, true, false}
 use mathlib.Core.List.{List, []}
-use Prim.Native.Nat.{ℕ, zero, suc, Ordering, compare·suc-zero}
+use Prim.Native.Nat.{ℕ, zero, suc, _-_, _^_, Ordering, compare·suc-zero}
 use native.Mathlib.Omega.{arith}
-use borrow.Author.Tests.{eqb-true, eqb-false, ltb-true, leb-true, le-leb, lt-leb}
+use borrow.Author.Tests.{lt-ltb, eqb-true, eqb-false, ltb-true, leb-true, le-leb, lt-leb}
 use lib.Dec.{T, eqb, leb, ltb, isEq}
 use lib.IntN.{natAbs}
-use Rattle.word.specs.Choice.{by-test}
+use lib.Pow.{pow-pos}
+use Rattle.word.specs.Choice.{both, by-test}
+use Rattle.word.specs.Every.{left}
 use Rattle.word.specs.Field.{field, small, put-above, put-below, put-at}
 use Rattle.word.specs.Signed.{minus}
 use Rattle.insn.specs.declared.Decoded.{Decoded}
-use Rattle.encode_home.specs.Table.{Put}
+use Rattle.encode_home.specs.declared.Filler.{Filler}
+use Rattle.encode_home.specs.declared.Filler.the-variants.{Manual, Zeros}
+use Rattle.encode_home.specs.Table.{Put, drawn, number}
 use Rattle.encode_home.specs.Home.{putsOf, putAll}
 use Rattle.encode_home.specs.Word.{wordOf}
-use Rattle.encode_home.proofs.Puts.{all}
+use Rattle.encode_home.proofs.Puts.{all, disjoint}
+
+-- what fills a field fits it
+pub drawn-fits : (k : ℕ) (c : Filler) → ltb (number c drawn k) (2 ^ k) ≡ true
+drawn-fits k Manual = lt-ltb (2 ^ k - 1) (2 ^ k) (omega (arith, pow-pos k))
+drawn-fits k Zeros = lt-ltb 0 (2 ^ k) (pow-pos k)
 
 -- what a put leaves of the other fields, and of its own
-pub ruleset apart = (put-above, put-below, put-at)
+pub ruleset apart = (put-above, put-below, put-at, drawn-fits)
 
 -- an accepted answer of w: these are its puts, and it leads back to w with them put in
 abbrev pub Back : List Put → ℕ → Decoded → Type 0
-Back ps w d = (d .refusal ≡ 0) × (putsOf (d .insn) ≡ ps) × (wordOf (d .insn) ≡ putAll ps w)
+Back ps w d = (d .refusal ≡ 0) × (putsOf (d .insn) ≡ ps) × (wordOf (d .insn) ≡ putAll Zeros ps w)
 
 -- a word of a group is refused at every address; or it is accepted at every address, and with its puts, which are near, it has the same answer
 pub data Settles (near : Put → Bool) (of : ℕ → ℕ → Decoded) (w : ℕ) : Type 0 where
   refuses : ((addr : ℕ) → (of w addr) .refusal ≡ 0 → ⊥) → Settles near of w
-  settles : (ps : List Put) → T (all near ps) → ((addr : ℕ) → (of (putAll ps w) addr ≡ of w addr) × Back ps w (of w addr)) → Settles near of w
+  settles : (ps : List Put) → T (both (all near ps) (disjoint ps))
+      → ((addr : ℕ) → ((c : Filler) → of (putAll c ps w) addr ≡ of w addr) × Back ps w (of w addr))
+      → Settles near of w
 
 -- by a row that ignores nothing
 pub reads : {near : Put → Bool} {of : ℕ → ℕ → Decoded} {w : ℕ} → ((addr : ℕ) → Back [] w (of w addr)) → Settles near of w
-reads back = settles [] tt (λ addr. (refl, back addr))
+reads back = settles [] tt (λ addr. (λ c. refl, back addr))
 
 -- by the rows that tests lead to, with the puts and without
 pub leads-to : {near : Put → Bool} {of of′ : ℕ → ℕ → Decoded} {w : ℕ} → Settles near of′ w
-    → ((ps : List Put) → T (all near ps) → (addr : ℕ) → of (putAll ps w) addr ≡ of′ (putAll ps w) addr) → Settles near of w
-leads-to (refuses never-ok) to = refuses (λ addr ok. never-ok addr (subst (λ (d : Decoded). d .refusal ≡ 0) (to [] tt addr) ok))
-leads-to {w = w} (settles ps t given) to =
+    → ((c : Filler) (ps : List Put) → T (all near ps) → (addr : ℕ) → of (putAll c ps w) addr ≡ of′ (putAll c ps w) addr) → Settles near of w
+leads-to (refuses never-ok) to = refuses (λ addr ok. never-ok addr (subst (λ (d : Decoded). d .refusal ≡ 0) (to Zeros [] tt addr) ok))
+leads-to {near = near} {w = w} (settles ps t given) to =
     settles ps t
-    (λ addr. (to ps t addr ∙ given addr .0 ∙ sym (to [] tt addr), subst (λ (d : Decoded). Back ps w d) (sym (to [] tt addr)) (given addr .1)))
+    (λ addr. (
+      λ c. to c ps (left (all near ps) (disjoint ps) t) addr ∙ given addr .0 c ∙ sym (to Zeros [] tt addr),
+      subst (λ (d : Decoded). Back ps w d) (sym (to Zeros [] tt addr)) (given addr .1),
+    ))
 
 -- by whether a field has a value
 pub by-value {ℓ} : {A : Type ℓ} (w lo k n : ℕ) → (field w lo k ≡ n → A) → (eqb (field w lo k) n ≡ false → A) → A

@@ -2,7 +2,11 @@
 -- Assumes nothing.
 use mathlib.Core.Path.{_∙_, sym}
 use Rattle.word.specs.Only.{Only}
-use Rattle.encode_words.proofs.word_of.Reads as word-of
+use Rattle.encode_words.proofs.filled_word.Reads as filled-word
+use Rattle.encode_words.proofs.fill.draw.Reads as draw
 
-pub word-of-only : Only word-of.Post
-word-of-only κs a r r′ s s′ p q = p ∙ sym q
+pub filled-word-only : Only filled-word.Post
+filled-word-only κs a r r′ s s′ p q = p ∙ sym q
+
+pub draw-only : Only draw.Post
+draw-only κs a r r′ s s′ p q = p ∙ sym q

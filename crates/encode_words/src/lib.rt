@@ -1,4 +1,5 @@
-//! The word that an instruction value leads to, put together from its name and operands, group by group.
+//! The word that an instruction value leads to, put together from its name and operands, group by group, and filled.
+use crate::fill::draw;
 use encode_dp::dp_word;
 use encode_dp::msr_immediate_word;
 use encode_dp::wide_word;
@@ -7,6 +8,7 @@ use encode_groups::ldst::ldst_word;
 use encode_groups::media::media_word;
 use encode_groups::misc::misc_word;
 use encode_groups::multiply::halfword_word;
+use encode_home::Filler;
 use encode_transfer::barrier_word;
 use encode_transfer::block_word;
 use encode_transfer::blx_word;
@@ -25,6 +27,8 @@ ghost use Rattle.insn.specs.Roots.{name};
 ghost use Rattle.encode_home.specs.Word as W;
 ghost use Rattle.encode_home.specs.WordTransfer.{blxWord, branchWord};
 ghost use Rattle.encode_words.specs.Candidate.{candidate};
+
+pub mod fill;
 
 /// Msr has one form in two groups.
 fn status_word(i: Insn) -> u32
@@ -53,9 +57,20 @@ fn address_word(i: Insn) -> u32
     }
 }
 
-/// By the last name of each group, in the order of the numbers.
-pub fn word_of(i: Insn) -> u32
-    ensures { λ r. ⌜ r ≡ candidate i ⌝ }
+/// The word with the bits that its row ignores filled.
+pub fn filled_word(i: Insn, filler: Filler) -> u32
+    ensures { λ r. ⌜ r ≡ candidate filler i ⌝ }
+{
+    let w = word_of(i);
+    match filler {
+        Filler::Manual => draw(i, w),
+        Filler::Zeros => w,
+    }
+}
+
+/// The word with zeros in them, by the last name of each group, in the order of the numbers.
+fn word_of(i: Insn) -> u32
+    ensures { λ r. ⌜ r ≡ W.wordOf i % 2 ^ 32 ⌝ }
 {
     let n = i.name;
     if is_at(i, 0, ADDRESS) {

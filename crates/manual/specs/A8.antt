@@ -1,10 +1,6 @@
 -- DDI 0406C, chapter A8: from the row that chapter A5's tables lead to, by each page's "SEE", to the page that reads the word, and what it
 -- reads. The pages stand in the order of A5's tables. A row without a page here is named and not read.
---
--- Bits that a page draws in parentheses should be as drawn, and are not tested: 19:16 of MOV, MVN and the shifts; 15:12 of the compares, of MUL,
--- SMUL<x><y>, SMULW<y>, SDIV, UDIV, MSR and the hints; 19:16, 11:10, 8 and 3:0 of MRS; 11:10 and 8 of MSR; 19:8 of BX, BXJ and BLX; 19:16 and 11:8 of
--- CLZ and the reversals; 11:8 of the saturating adds, the exclusives, the hints and the extra forms by register, and 3:0 of the exclusive loads; 9:8
--- of the extends; 24 and 21 of the loads from R[15]; 15:12 of the preloads; 19:8 of CLREX and the barriers, and 3:0 of CLREX.
+-- Bits that a page draws in parentheses are not tested: ShouldBe has them.
 use mathlib.Core.Bool.{Bool, true, false, not}
 use mathlib.Core.List.{List, [], _∷_, _++_}
 use Prim.Native.Nat.{ℕ, _+_, _-_, _*_, _%_, _^_}

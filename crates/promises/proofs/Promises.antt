@@ -2,7 +2,7 @@
 -- the manual, that different work has different answers, and what stands beside these. Each statement is proved in a line or two from those that
 -- docs/THEOREMS.md lists. Assumes nothing.
 use mathlib.Core.Path.{_≡_, sym, _∙_}
-use mathlib.Core.Bool.{true, false}
+use mathlib.Core.Bool.{true, false, not}
 use mathlib.Core.List.{List, _++_}
 use mathlib.Core.Logic.{_↔_}
 use Prim.Native.Nat.{ℕ, _^_, _<_, _≤_}
@@ -17,6 +17,8 @@ use Rattle.insn.specs.declared.Decoded.{Decoded}
 use Rattle.insn.specs.declared.Insn.{Insn}
 use Rattle.a32.specs.Decode.{decodeOf, decodeBytesOf}
 use Rattle.a32.proofs.Groups.{Below}
+use Rattle.encode_home.specs.declared.Filler.{Filler}
+use Rattle.encode_home.specs.declared.Filler.the-variants.{Manual, Zeros}
 use Rattle.encode_home.specs.Home.{homeOf}
 use Rattle.encode_home.specs.Alike.{Alike}
 use Rattle.encode.specs.declared.Encoded.{Encoded}
@@ -28,13 +30,18 @@ use Rattle.line_spelling.specs.Line.{answerText, lineText}
 use Rattle.listing_text.specs.Listing.{listingOf}
 use Rattle.promises_predicated.specs.Predicated.{under}
 use Rattle.manual.specs.A5.{tableRow}
+use Rattle.manual.specs.A8.{rowOf as pageOf}
+use Rattle.manual.specs.ShouldBe.{asDrawn}
 use Rattle.manual.specs.Stands.{Stands, inRange}
+use Rattle.manual_drawn.specs.Exceptions.{excepted}
 use Rattle.insn_row.specs.Row.{rowOf}
 use Rattle.brassdozen.specs.Given.{Answers}
 use Rattle.a32.proofs.decode as decode
 use Rattle.a32.proofs.decode_bytes as decode-bytes
 use Rattle.encode.proofs.encode as encode
+use Rattle.encode.proofs.encode_with as encode-with
 use Rattle.encode.proofs.home as home
+use Rattle.encode.proofs.home_with as home-with
 use Rattle.section.proofs.open as open-section
 use Rattle.line.proofs.line as line
 use Rattle.listing_text.proofs.listing as listing
@@ -42,7 +49,9 @@ use Rattle.brassdozen.proofs.brassdozen_version as c-version
 use Rattle.brassdozen.proofs.brassdozen_decode as c-decode
 use Rattle.brassdozen.proofs.brassdozen_decode_bytes as c-decode-bytes
 use Rattle.brassdozen.proofs.brassdozen_encode as c-encode
+use Rattle.brassdozen.proofs.brassdozen_encode_zeros as c-encode-zeros
 use Rattle.brassdozen.proofs.brassdozen_home as c-home
+use Rattle.brassdozen.proofs.brassdozen_home_zeros as c-home-zeros
 use Rattle.brassdozen.proofs.brassdozen_line as c-line
 use Rattle.brassdozen.proofs.brassdozen_listing as c-listing
 use Rattle.a32_elsewhere.proofs.Elsewhere as Elsewhere
@@ -50,6 +59,7 @@ use Rattle.encode_home.proofs.Same as Same
 use Rattle.encode.proofs.Encodes as Encodes
 use Rattle.section.proofs.Accepted as Accepted
 use Rattle.manual_follows.proofs.Follows as Follows
+use Rattle.manual_drawn.proofs.Drawn as Drawn
 use Rattle.promises_differ.proofs.Alike as Differ
 use Rattle.promises_predicated.proofs.ReadOnce as ReadOnce
 use Rattle.line_spelling.proofs.Fits as Fits
@@ -100,11 +110,17 @@ module _ (κ κ′ : Lft) where
   abbrev DecodesBytes : (bytes : Slice) (addr : ℕ) → Decoded → Type 0
   DecodesBytes bytes addr d = decode-bytes.Reads.Post (κ, tt) (bytes, (addr, tt)) d (bytes, (addr, tt))
 
-  abbrev EncodesTo : Insn → Encoded → Type 0
-  EncodesTo i e = encode.Reads.Post tt (i, tt) e (i, tt)
+  abbrev EncodesTo : Filler → Insn → Encoded → Type 0
+  EncodesTo c i e = encode-with.Reads.Post tt (i, (c, tt)) e (i, (c, tt))
 
-  abbrev HasHome : (w : ℕ) → Encoded → Type 0
-  HasHome w h = home.Reads.Post tt (w, tt) h (w, tt)
+  abbrev EncodesByDefault : Insn → Encoded → Type 0
+  EncodesByDefault i e = encode.Reads.Post tt (i, tt) e (i, tt)
+
+  abbrev HasHome : Filler → (w : ℕ) → Encoded → Type 0
+  HasHome c w h = home-with.Reads.Post tt (w, (c, tt)) h (w, (c, tt))
+
+  abbrev HasHomeByDefault : (w : ℕ) → Encoded → Type 0
+  HasHomeByDefault w h = home.Reads.Post tt (w, tt) h (w, tt)
 
   abbrev Opens : (bytes : Slice) → Opened → Type 0
   Opens bytes o = open-section.Reads.Post (κ, tt) (bytes, tt) o (bytes, tt)
@@ -123,11 +139,14 @@ module _ (κ κ′ : Lft) where
   abbrev DecodesBytesToRow : (bytes : Slice) (addr : ℕ) (row : Slice) → ℕ → (row′ : Slice) → Type 0
   DecodesBytesToRow bytes addr row n row′ = c-decode-bytes.Reads.Post (κ, (κ′, tt)) (bytes, (addr, (row, tt))) n (bytes, (addr, (row′, tt)))
 
-  abbrev EncodesRow : (row : Slice) → ℕ → Type 0
-  EncodesRow row p = c-encode.Reads.Post (κ, tt) (row, tt) p (row, tt)
+  -- by a function of its own for each filler
+  abbrev EncodesRow : Filler → (row : Slice) → ℕ → Type 0
+  EncodesRow Manual row p = c-encode.Reads.Post (κ, tt) (row, tt) p (row, tt)
+  EncodesRow Zeros row p = c-encode-zeros.Reads.Post (κ, tt) (row, tt) p (row, tt)
 
-  abbrev HasHomeForC : (w : ℕ) → ℕ → Type 0
-  HasHomeForC w p = c-home.Reads.Post tt (w, tt) p (w, tt)
+  abbrev HasHomeForC : Filler → (w : ℕ) → ℕ → Type 0
+  HasHomeForC Manual w p = c-home.Reads.Post tt (w, tt) p (w, tt)
+  HasHomeForC Zeros w p = c-home-zeros.Reads.Post tt (w, tt) p (w, tt)
 
   abbrev WritesLineForC : (addr w : ℕ) (out : Slice) → ℕ → (out′ : Slice) → Type 0
   WritesLineForC addr w out p out′ = c-line.Reads.Post (κ, tt) (addr, (w, (out, tt))) p (addr, (w, (out′, tt)))
@@ -142,7 +161,9 @@ module _ (κ κ′ : Lft) where
       Taken decode.Statement.statement decode.Reads.Asked
       × Taken decode-bytes.Statement.statement decode-bytes.Reads.Asked
       × Taken encode.Statement.statement encode.Reads.Asked
+      × Taken encode-with.Statement.statement encode-with.Reads.Asked
       × Taken home.Statement.statement home.Reads.Asked
+      × Taken home-with.Statement.statement home-with.Reads.Asked
       × Taken open-section.Statement.statement open-section.Reads.Asked
       × Taken line.Statement.statement line.Reads.Asked
       × Taken listing.Statement.statement listing.Reads.Asked
@@ -150,14 +171,18 @@ module _ (κ κ′ : Lft) where
       × Taken c-decode.Statement.statement c-decode.Reads.Asked
       × Taken c-decode-bytes.Statement.statement c-decode-bytes.Reads.Asked
       × Taken c-encode.Statement.statement c-encode.Reads.Asked
+      × Taken c-encode-zeros.Statement.statement c-encode-zeros.Reads.Asked
       × Taken c-home.Statement.statement c-home.Reads.Asked
+      × Taken c-home-zeros.Statement.statement c-home-zeros.Reads.Asked
       × Taken c-line.Statement.statement c-line.Reads.Asked
       × Taken c-listing.Statement.statement c-listing.Reads.Asked
   taken = (
     (λ M. decode.Met.met, λ κs a. tt),
     (λ M. decode-bytes.Met.met, λ κs a. tt),
     (λ M. encode.Met.met, λ κs a. tt),
+    (λ M. encode-with.Met.met, λ κs a. tt),
     (λ M. home.Met.met, λ κs a. tt),
+    (λ M. home-with.Met.met, λ κs a. tt),
     (λ M. open-section.Met.met, λ κs a. tt),
     (λ M. line.Met.met, λ κs a. tt),
     (λ M. listing.Met.met, λ κs a. tt),
@@ -165,7 +190,9 @@ module _ (κ κ′ : Lft) where
     (λ M. c-decode.Met.met, λ κs a. tt),
     (λ M. c-decode-bytes.Met.met, λ κs a. tt),
     (λ M. c-encode.Met.met, λ κs a. tt),
+    (λ M. c-encode-zeros.Met.met, λ κs a. tt),
     (λ M. c-home.Met.met, λ κs a. tt),
+    (λ M. c-home-zeros.Met.met, λ κs a. tt),
     (λ M. c-line.Met.met, λ κs a. tt),
     (λ M. c-listing.Met.met, λ κs a. tt),
   )
@@ -228,42 +255,61 @@ module _ (κ κ′ : Lft) where
   pub follows-the-manual : (w addr : ℕ) (d : Decoded) → Decodes w addr d → inRange w ≡ true → Stands (tableRow w) w addr d
   follows-the-manual w addr d is range = rw is (Follows.follows-the-manual w addr range)
 
-  -- The encoder turns an answer back into a word with that same answer.
-  pub and-back : (w addr : ℕ) (d : Decoded) (e : Encoded) → Word w → Decodes w addr d → Accepts d → EncodesTo (d .insn) e → Decodes (e .word) addr d
-  and-back w addr d e bound is ok to = is ∙ sym (rw (to, is, Encodes.encodes-home w addr bound (rw (← is) ok)) (Same.home-decodes w addr bound))
+  -- The encoder turns an answer back into a word with that same answer, under either filler.
+  pub and-back : (c : Filler) (w addr : ℕ) (d : Decoded) (e : Encoded) → Word w → Decodes w addr d → Accepts d → EncodesTo c (d .insn) e
+      → Decodes (e .word) addr d
+  and-back c w addr d e bound is ok to =
+      is ∙ sym (rw (to, is, Encodes.encodes-home c w addr bound (rw (← is) ok)) (Same.home-decodes c w addr bound))
 
-  -- 3. Different work, different answers.
+  -- 3. Different work, different answers, under either filler of home words.
 
   -- At one address two accepted words get equal answers exactly if the table of ignored bits gives them one home word.
-  pub same-answer : (w v addr : ℕ) (d d′ : Decoded) → Word w → Word v → Decodes w addr d → Decodes v addr d′ → Accepts d → Accepts d′
-      → (d ≡ d′) ↔ (homeOf w ≡ homeOf v)
-  same-answer w v addr d d′ bound bound′ is is′ ok ok′ = rw (is, is′) (Same.same-answer w v addr bound bound′ (rw (← is) ok) (rw (← is′) ok′))
+  pub same-answer : (c : Filler) (w v addr : ℕ) (d d′ : Decoded) → Word w → Word v → Decodes w addr d → Decodes v addr d′ → Accepts d → Accepts d′
+      → (d ≡ d′) ↔ (homeOf c w ≡ homeOf c v)
+  same-answer c w v addr d d′ bound bound′ is is′ ok ok′ = rw (is, is′) (Same.same-answer c w v addr bound bound′ (rw (← is) ok) (rw (← is′) ok′))
 
   -- Encoding an answer gives that home word.
-  pub encodes-home : (w addr : ℕ) (d : Decoded) (e : Encoded) → Word w → Decodes w addr d → Accepts d → EncodesTo (d .insn) e
-      → e ≡ record { refusal = 0; word = homeOf w }
-  encodes-home w addr d e bound is ok to = rw (to, is) (Encodes.encodes-home w addr bound (rw (← is) ok))
+  pub encodes-home : (c : Filler) (w addr : ℕ) (d : Decoded) (e : Encoded) → Word w → Decodes w addr d → Accepts d → EncodesTo c (d .insn) e
+      → e ≡ record { refusal = 0; word = homeOf c w }
+  encodes-home c w addr d e bound is ok to = rw (to, is) (Encodes.encodes-home c w addr bound (rw (← is) ok))
 
   -- So does `home`; of a refused word it gives the refusal.
-  pub home-word : (w addr : ℕ) (d : Decoded) (h : Encoded) → Decodes w addr d → HasHome w h
-      → (Accepts d → h ≡ record { refusal = 0; word = homeOf w }) × ((Accepts d → ⊥) → h ≡ record { refusal = d .refusal; word = 0 })
-  home-word w addr d h is has =
+  pub home-word : (c : Filler) (w addr : ℕ) (d : Decoded) (h : Encoded) → Decodes w addr d → HasHome c w h
+      → (Accepts d → h ≡ record { refusal = 0; word = homeOf c w }) × ((Accepts d → ⊥) → h ≡ record { refusal = d .refusal; word = 0 })
+  home-word c w addr d h is has =
       (λ ok. has ∙ simp (at-zero, ok), λ refused. has ∙ simp (at-zero, ne-eqb (d .refusal) 0 refused))
     where
       at-zero : (decodeOf w 0) .refusal ≡ d .refusal
       at-zero = rw is (Elsewhere.refused-anywhere w 0 addr)
 
-  pub home-word-for-c : (w p : ℕ) (h : Encoded) → HasHome w h → HasHomeForC w p → p ≡ packed (h .refusal) (h .word)
-  home-word-for-c w p h has is = rw has is
+  -- The default fills as the manual draws.
+  pub by-default : (i : Insn) (w : ℕ) (e h : Encoded)
+      → (EncodesByDefault i e ↔ EncodesTo Manual i e) × (HasHomeByDefault w h ↔ HasHome Manual w h)
+  by-default i w e h = ((λ is. is, λ is. is), (λ is. is, λ is. is))
+
+  -- A word's home words decode alike, and each is the home of the other, under its own filler.
+  pub homes-alike : (c c′ : Filler) (w addr : ℕ) (d : Decoded) → Word w → Decodes w addr d → Accepts d
+      → Decodes (homeOf c w) addr d × (homeOf c (homeOf c′ w) ≡ homeOf c w)
+  homes-alike c c′ w addr d bound is ok = (is ∙ sym (Same.home-decodes c w addr bound), Same.home-home c c′ w addr bound (rw (← is) ok))
+
+  -- The default is as drawn: the bits that a word's page draws in parentheses are so in its home word, but for the exceptions, in which they are not.
+  pub as-drawn : (w addr : ℕ) (d : Decoded) (h : Encoded) → Decodes w addr d → Accepts d → HasHome Manual w h
+      → asDrawn (pageOf w) (h .word) ≡ not (excepted w)
+  as-drawn w addr d h is ok has = rw (home-word Manual w addr d h is has .0 ok) (Drawn.home-as-drawn w addr (rw (← is) ok))
+
+  pub home-word-for-c : (c : Filler) (w p : ℕ) (h : Encoded) → HasHome c w h → HasHomeForC c w p → p ≡ packed (h .refusal) (h .word)
+  home-word-for-c Manual w p h has is = rw has is
+  home-word-for-c Zeros w p h has is = rw has is
 
   -- An instruction value is refused, with 4, exactly if no word decodes to it at its address; and else a word that does is given.
-  pub refuses-exactly : (i : Insn) (e : Encoded) → EncodesTo i e → (e .refusal ≡ 4) ↔ ((w : ℕ) → Word w → Decodes w (i .addr) (accepted i) → ⊥)
-  refuses-exactly i e to =
-      let exactly = Encodes.refuses-exactly i in
+  pub refuses-exactly : (c : Filler) (i : Insn) (e : Encoded) → EncodesTo c i e
+      → (e .refusal ≡ 4) ↔ ((w : ℕ) → Word w → Decodes w (i .addr) (accepted i) → ⊥)
+  refuses-exactly c i e to =
+      let exactly = Encodes.refuses-exactly c i in
       rw to (λ four w bound has. exactly .0 four w bound (sym has), λ none. exactly .1 (λ w bound has. none w bound (sym has)))
 
-  pub gives : (i : Insn) (e : Encoded) → EncodesTo i e → e .refusal ≡ 0 → Decodes (e .word) (i .addr) (accepted i)
-  gives i e to ok = sym (rw to (Encodes.gives i (rw (← to) ok)))
+  pub gives : (c : Filler) (i : Insn) (e : Encoded) → EncodesTo c i e → e .refusal ≡ 0 → Decodes (e .word) (i .addr) (accepted i)
+  gives c i e to ok = sym (rw to (Encodes.gives c i (rw (← to) ok)))
 
   -- Beside them.
 
@@ -277,9 +323,9 @@ module _ (κ κ′ : Lft) where
   read-once w v addr d d′ alike below below′ is is′ = rw (is, is′) (ReadOnce.read-once w v addr alike below below′)
 
   -- Two accepted words read alike, from the name on, exactly if they have one home word.
-  pub reads-alike : (w v addr : ℕ) (d d′ : Decoded) → Word w → Word v → Decodes w addr d → Decodes v addr d′ → Accepts d → Accepts d′
-      → (answerText d ≡ answerText d′) ↔ (homeOf w ≡ homeOf v)
-  reads-alike w v addr d d′ bound bound′ is is′ ok ok′ = rw (is, is′) (Differ.reads-alike w v addr bound bound′ (rw (← is) ok) (rw (← is′) ok′))
+  pub reads-alike : (c : Filler) (w v addr : ℕ) (d d′ : Decoded) → Word w → Word v → Decodes w addr d → Decodes v addr d′ → Accepts d → Accepts d′
+      → (answerText d ≡ answerText d′) ↔ (homeOf c w ≡ homeOf c v)
+  reads-alike c w v addr d d′ bound bound′ is is′ ok ok′ = rw (is, is′) (Differ.reads-alike c w v addr bound bound′ (rw (← is) ok) (rw (← is′) ok′))
 
   -- 96 bytes take any line, and 393,280 any listing.
   pub line-fits : (addr w : ℕ) (d : Decoded) → Decodes w addr d → length (lineText addr w d) ≤ 96
@@ -289,12 +335,17 @@ module _ (κ κ′ : Lft) where
   listing-fits section = Enough.listing-fits section
 
   -- A row of numbers is refused, with 4, exactly if no word's answer at the row's address has it; and else the home word of each that has is given.
-  pub row-refused-exactly : (row : Slice) (p : ℕ) → EncodesRow row p → (p ≡ packed 4 0) ↔ ((w : ℕ) → Word w → Answers w (now row) → ⊥)
-  row-refused-exactly row p is = rw is (Exactly.encodes-exactly (now row) .0)
+  pub row-refused-exactly : (c : Filler) (row : Slice) (p : ℕ) → EncodesRow c row p
+      → (p ≡ packed 4 0) ↔ ((w : ℕ) → Word w → Answers w (now row) → ⊥)
+  row-refused-exactly Manual row p is = rw is (Exactly.encodes-exactly Manual (now row) .0)
+  row-refused-exactly Zeros row p is = rw is (Exactly.encodes-exactly Zeros (now row) .0)
 
-  pub row-gives-home : (row : Slice) (p w : ℕ) → EncodesRow row p → Word w → Answers w (now row) → p ≡ packed 0 (homeOf w)
-  row-gives-home row p w is bound has = is ∙ Exactly.encodes-exactly (now row) .1 w bound has
+  pub row-gives-home : (c : Filler) (row : Slice) (p w : ℕ) → EncodesRow c row p → Word w → Answers w (now row) → p ≡ packed 0 (homeOf c w)
+  row-gives-home Manual row p w is bound has = is ∙ Exactly.encodes-exactly Manual (now row) .1 w bound has
+  row-gives-home Zeros row p w is bound has = is ∙ Exactly.encodes-exactly Zeros (now row) .1 w bound has
 
   -- The row that decoding writes encodes to the word's home word.
-  pub row-back : (w addr : ℕ) (row row′ : Slice) (p : ℕ) → Word w → DecodesToRow w addr row 0 row′ → EncodesRow row′ p → p ≡ packed 0 (homeOf w)
-  row-back w addr row row′ p bound is to = to ∙ rw (is .1) (Back.goes-home w addr (now row) bound (sym (is .0)))
+  pub row-back : (c : Filler) (w addr : ℕ) (row row′ : Slice) (p : ℕ) → Word w → DecodesToRow w addr row 0 row′ → EncodesRow c row′ p
+      → p ≡ packed 0 (homeOf c w)
+  row-back Manual w addr row row′ p bound is to = to ∙ rw (is .1) (Back.goes-home Manual w addr (now row) bound (sym (is .0)))
+  row-back Zeros w addr row row′ p bound is to = to ∙ rw (is .1) (Back.goes-home Zeros w addr (now row) bound (sym (is .0)))

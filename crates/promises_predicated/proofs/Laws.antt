@@ -10,6 +10,7 @@ use Rattle.insn.specs.declared.Decoded.{Decoded}
 use Rattle.insn.specs.declared.Flow.{Flow}
 use Rattle.insn.specs.declared.Flow.the-variants.{Next, Branch, CondBranch, IndirectBranch, Call, IndirectCall, Return, Trap}
 use Rattle.insn.specs.declared.Insn.{Insn}
+use Rattle.encode_home.specs.declared.Filler.{Filler}
 use Rattle.encode_home.specs.Home.{putsOf, homeBy}
 use Rattle.encode_home.specs.WordDp.{isIndirect}
 use Rattle.promises_predicated.specs.Predicated.{flowAt, under}
@@ -59,7 +60,7 @@ branches-under c IndirectCall = refl
 branches-under c Return = refl
 branches-under c Trap = refl
 
-pub home-under : (c : ℕ) (d : Decoded) (w : ℕ) → homeBy (under c d) w ≡ homeBy d w
-home-under c d w = unfold under putsOf in by-test (eqb (d .refusal) 0) (λ e. simp (e, branches-under)) (λ e. simp e)
+pub home-under : (f : Filler) (c : ℕ) (d : Decoded) (w : ℕ) → homeBy f (under c d) w ≡ homeBy f d w
+home-under f c d w = unfold under putsOf in by-test (eqb (d .refusal) 0) (λ e. simp (e, branches-under)) (λ e. simp e)
 
 pub ruleset laws = (through, flows-through, no-row-under, coprocessor-under, accepted-under)

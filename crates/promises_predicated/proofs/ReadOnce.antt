@@ -12,6 +12,7 @@ use Rattle.a32.specs.Decode.{controlOf, decodeOf}
 use Rattle.a32.proofs.Groups.{Below, Group, unconditional, coprocessor, misc, halfword, dp-reg, multiply, sync, extra-ldst, dp-imm, ldst, ldst-index}
 use Rattle.a32.proofs.Groups.{media, block, branch, found, reaches}
 use Rattle.encode_home.specs.Alike.{Alike, fields-alike}
+use Rattle.encode_home.specs.declared.Filler.{Filler}
 use Rattle.encode_home.specs.Home.{putsOf, homeBy, homeOf}
 use Rattle.encode_home.proofs.Puts.{all-good, putAll-alike}
 use Rattle.line_spelling.specs.Line.{nameText, insnText, answerText}
@@ -75,16 +76,16 @@ module _ (w v addr : ℕ) (alike : Alike w v) (c : Below w) (c′ : Below v) whe
       of group = reaches v (beside group) addr ∙ once group ∙ ap (under (field v 28 4)) (sym (reaches w group addr))
 
 -- the home words of two words that differ in the condition alone, too
-pub homes-alike : (w v : ℕ) → Alike w v → Below w → Below v → Alike (homeOf w) (homeOf v)
+pub homes-alike : (f : Filler) (w v : ℕ) → Alike w v → Below w → Below v → Alike (homeOf f w) (homeOf f v)
 unfolding homeOf
-homes-alike w v alike c c′ =
-    both-by (decodeOf w 0) ∙ sym (ap (λ (x : ℕ). field x 0 28) (ap (λ (d : Decoded). homeBy d v) (read-once w v 0 alike c c′)
-    ∙ home-under (field v 28 4) (decodeOf w 0) v))
+homes-alike f w v alike c c′ =
+    both-by (decodeOf w 0) ∙ sym (ap (λ (x : ℕ). field x 0 28) (ap (λ (d : Decoded). homeBy f d v) (read-once w v 0 alike c c′)
+    ∙ home-under f (field v 28 4) (decodeOf w 0) v))
   where
-    both-by : (d : Decoded) → Alike (homeBy d w) (homeBy d v)
+    both-by : (d : Decoded) → Alike (homeBy f d w) (homeBy f d v)
     both-by d =
         by-test (eqb (d .refusal) 0)
-        (λ ok. simp ok (putAll-alike (putsOf (d .insn)) (all-good (d .insn)) w v alike))
+        (λ ok. simp ok (putAll-alike f (putsOf (d .insn)) (all-good (d .insn)) w v alike))
         (λ refused. simp refused alike)
 
 module _ (w v addr : ℕ) (alike : Alike w v) (c : Below w) (c′ : Below v) where
@@ -92,8 +93,8 @@ module _ (w v addr : ℕ) (alike : Alike w v) (c : Below w) (c′ : Below v) whe
   pub text-once : answerText (decodeOf v addr) ≡ textUnder (field v 28 4) (decodeOf w addr)
   text-once = ap answerText (read-once w v addr alike c c′) ∙ text-under (field v 28 4) (decodeOf w addr)
 
-  pub home-once : Alike (homeOf w) (homeOf v)
-  home-once = homes-alike w v alike c c′
+  pub home-once : (f : Filler) → Alike (homeOf f w) (homeOf f v)
+  home-once f = homes-alike f w v alike c c′
 
   -- part by part
   pub same-refusal : (decodeOf v addr) .refusal ≡ (decodeOf w addr) .refusal
