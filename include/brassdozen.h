@@ -19,18 +19,25 @@ extern "C" {
 
 /* The version of this header: 10,000 for each major one, 100 for each minor one, and one for each patch. The major one changes where what is
    here changes, a row or a function, and the minor one where something is added. */
-enum { BRASSDOZEN_VERSION = 20000 };
+enum { BRASSDOZEN_VERSION = 20100 };
 
 /* The version of the library that is linked. */
 uint32_t brassdozen_version(void);
 
 /* A refusal's number, or 0. */
 enum {
-    BRASSDOZEN_SHORT = 1,       /* decoding bytes: fewer than four */
-    BRASSDOZEN_COPROCESSOR = 2, /* decoding: condition below 15 and bits 27:26 = 11 */
-    BRASSDOZEN_NO_ROW = 3,      /* decoding: any other word that names no instruction that is known here */
-    BRASSDOZEN_NO_WORD = 4,     /* encoding: no word's answer has this row */
-    BRASSDOZEN_NO_ROOM = 10     /* writing: longer than what is lent */
+    BRASSDOZEN_SHORT = 1,          /* decoding bytes: fewer than four */
+    BRASSDOZEN_COPROCESSOR = 2,    /* decoding: condition below 15 and bits 27:26 = 11 */
+    BRASSDOZEN_NO_ROW = 3,         /* decoding: any other word that names no instruction that is known here */
+    BRASSDOZEN_NO_WORD = 4,        /* encoding: no word's answer has this row */
+    BRASSDOZEN_BAD_MARK = 5,       /* a section: its mark is not RSX */
+    BRASSDOZEN_BAD_VERSION = 6,    /* a section: its version is neither 1 nor 2 */
+    BRASSDOZEN_BAD_LENGTH = 7,     /* a section: shorter than 9 bytes, the count of ranges or a range cut short, or not whole words */
+    BRASSDOZEN_TOO_MANY_WORDS = 8, /* a section: more than 4,096 words */
+    BRASSDOZEN_BAD_BASE = 9,       /* a section: its base is no multiple of 4, or its words go beyond the last address */
+    BRASSDOZEN_NO_ROOM = 10,       /* writing: longer than what is lent */
+    BRASSDOZEN_BAD_RANGES = 11,    /* a section: more than 64 ranges, or one that is empty, not in the section, or not after the one before it */
+    BRASSDOZEN_HAS_RANGES = 12     /* converting to version 1: a section with ranges */
 };
 
 /* Where a function gives a number of 64 bits, the refusal stands above 32 bits of result, which are 0 beside a refusal. */
@@ -38,9 +45,10 @@ static inline unsigned brassdozen_refusal(uint64_t given) { return (unsigned)(gi
 static inline uint32_t brassdozen_result(uint64_t given) { return (uint32_t)given; }
 
 enum {
-    BRASSDOZEN_ROW = 49,        /* the numbers of a row */
-    BRASSDOZEN_LINE = 96,       /* no line has more bytes */
-    BRASSDOZEN_LISTING = 393280 /* no listing has more bytes */
+    BRASSDOZEN_ROW = 49,         /* the numbers of a row */
+    BRASSDOZEN_LINE = 96,        /* no line has more bytes */
+    BRASSDOZEN_LISTING = 393280, /* no listing has more bytes */
+    BRASSDOZEN_SECTION = 16907   /* no section that is accepted has more bytes */
 };
 
 /* A row: an instruction value as numbers.
@@ -100,6 +108,16 @@ uint64_t brassdozen_line(uint64_t address, uint32_t word, uint8_t *out, size_t l
    A section that is not accepted has a listing of one line, "refused N". A refusal changes no byte of `out`, and nothing changes one after
    the listing. Where `length` is below 64 and 96 for each word, the section is gone through twice, for the listing's length and to write it. */
 uint64_t brassdozen_listing(const uint8_t *section, size_t bytes, uint8_t *out, size_t length);
+
+/* Writes a section as one of version 1 to the start of `out`, and gives its length: one of version 1 as it is, one of version 2 without its
+   count of ranges. A section that is not accepted is refused with 5, 6, 7, 8, 9 or 11, as its listing says; else one with ranges with 12; and
+   else, with 10, exactly if what would be written is longer than `length`. A refusal changes no byte of `out`, and nothing changes one after
+   the section. */
+uint64_t brassdozen_to_v1(const uint8_t *section, size_t bytes, uint8_t *out, size_t length);
+
+/* The same for version 2: one of version 2 as it is, one of version 1 with a count of no ranges, which brassdozen_to_v1 makes the same bytes
+   of again. No section is refused with 12. */
+uint64_t brassdozen_to_v2(const uint8_t *section, size_t bytes, uint8_t *out, size_t length);
 
 #ifdef __cplusplus
 }

@@ -154,6 +154,98 @@ static void check_listing(const uint8_t *words, size_t count)
     }
 }
 
+typedef uint64_t converter(const uint8_t *, size_t, uint8_t *, size_t);
+
+static uint8_t lent[BRASSDOZEN_SECTION + 3];
+
+/* A section as one of another version, or of its own: it is written whole, or not at all. */
+static void check_converted(converter *convert, const uint8_t *section, size_t bytes, const uint8_t *expected, size_t whole)
+{
+    const size_t lengths[] = {0, whole - 1, whole, whole + 3};
+    for (size_t n = 0; n < sizeof lengths / sizeof *lengths; n++) {
+        memset(lent, UNTOUCHED, sizeof lent);
+        uint64_t given = convert(section, bytes, lent, lengths[n]);
+        if (lengths[n] < whole) {
+            CHECK(brassdozen_refusal(given) == BRASSDOZEN_NO_ROOM && brassdozen_result(given) == 0);
+            CHECK(untouched(lent, lent + sizeof lent));
+        } else {
+            CHECK(given == whole);
+            CHECK(memcmp(lent, expected, whole) == 0);
+            CHECK(untouched(lent + whole, lent + sizeof lent));
+        }
+    }
+}
+
+/* A section that is not converted, whatever the room. */
+static void check_refused(converter *convert, const uint8_t *section, size_t bytes, unsigned refusal)
+{
+    const size_t lengths[] = {0, sizeof lent};
+    for (size_t n = 0; n < sizeof lengths / sizeof *lengths; n++) {
+        memset(lent, UNTOUCHED, sizeof lent);
+        uint64_t given = convert(section, bytes, lent, lengths[n]);
+        CHECK(brassdozen_refusal(given) == refusal && brassdozen_result(given) == 0);
+        CHECK(untouched(lent, lent + sizeof lent));
+    }
+}
+
+/* The words so far, without data in both versions, and with. */
+static void check_conversion(const uint8_t *words, size_t count)
+{
+    static uint8_t one[9 + 4 * 4096] = "RSX\1", two[11 + 4 * 4096] = "RSX\2", data[19 + 4 * 4096] = "RSX\2";
+    const size_t one_bytes = 9 + 4 * count, two_bytes = 11 + 4 * count, data_bytes = 19 + 4 * count;
+    memcpy(one + 9, words, 4 * count);
+    memcpy(two + 11, words, 4 * count);
+    check_converted(brassdozen_to_v1, one, one_bytes, one, one_bytes);
+    check_converted(brassdozen_to_v2, one, one_bytes, two, two_bytes);
+    check_converted(brassdozen_to_v1, two, two_bytes, one, one_bytes);
+    check_converted(brassdozen_to_v2, two, two_bytes, two, two_bytes);
+
+    /* A range of one word, the first; of none; and of the word after the last. */
+    memcpy(data + 19, words, 4 * count);
+    data[9] = 1;
+    data[15] = 1;
+    if (count > 0) {
+        check_refused(brassdozen_to_v1, data, data_bytes, BRASSDOZEN_HAS_RANGES);
+        check_converted(brassdozen_to_v2, data, data_bytes, data, data_bytes);
+        static uint8_t listing[BRASSDOZEN_LISTING];
+        uint64_t length = brassdozen_listing(data, data_bytes, listing, sizeof listing);
+        char expected[64];
+        size_t at = (size_t)sprintf(expected, "RSX 2 00000000 %zu\n", count);
+        sprintf(expected + at, "00000000 %02x%02x%02x%02x data\n", words[3], words[2], words[1], words[0]);
+        CHECK(memcmp(listing, expected, strlen(expected)) == 0);
+        CHECK(memcmp(listing + length - 8, " 1 data\n", 8) == 0);
+    }
+    data[15] = 0;
+    check_refused(brassdozen_to_v1, data, data_bytes, BRASSDOZEN_BAD_RANGES);
+    check_refused(brassdozen_to_v2, data, data_bytes, BRASSDOZEN_BAD_RANGES);
+    data[15] = 1;
+    data[11] = (uint8_t)count;
+    data[12] = (uint8_t)(count >> 8);
+    check_refused(brassdozen_to_v1, data, data_bytes, BRASSDOZEN_BAD_RANGES);
+    check_refused(brassdozen_to_v2, data, data_bytes, BRASSDOZEN_BAD_RANGES);
+    data[11] = data[12] = 0;
+
+    /* Cut short: of the first nine bytes, in the count, in the range, and in the words. */
+    const size_t cut[] = {0, 8, 9, 10, 11, 18};
+    for (size_t n = 0; n < sizeof cut / sizeof *cut; n++) {
+        check_refused(brassdozen_to_v1, data, cut[n], BRASSDOZEN_BAD_LENGTH);
+        check_refused(brassdozen_to_v2, data, cut[n], BRASSDOZEN_BAD_LENGTH);
+    }
+    if (count > 0) {
+        check_refused(brassdozen_to_v2, data, data_bytes - 1, BRASSDOZEN_BAD_LENGTH);
+        check_refused(brassdozen_to_v2, one, one_bytes - 1, BRASSDOZEN_BAD_LENGTH);
+    }
+    one[5] = 2;
+    check_refused(brassdozen_to_v2, one, one_bytes, BRASSDOZEN_BAD_BASE);
+    one[5] = 0;
+    one[3] = 3;
+    check_refused(brassdozen_to_v1, one, one_bytes, BRASSDOZEN_BAD_VERSION);
+    one[3] = 1;
+    one[2] = 'Y';
+    check_refused(brassdozen_to_v1, one, one_bytes, BRASSDOZEN_BAD_MARK);
+    one[2] = 'X';
+}
+
 int main(void)
 {
     static uint8_t words[4 * 4096];
@@ -176,6 +268,11 @@ int main(void)
     check_listing(words, 0);
     check_listing(words, 1);
     check_listing(words, count);
+    check_conversion(words, 0);
+    check_conversion(words, 1);
+    check_conversion(words, count);
+    static const uint8_t many[9 + 4 * 4097] = "RSX\1";
+    check_refused(brassdozen_to_v2, many, sizeof many, BRASSDOZEN_TOO_MANY_WORDS);
     CHECK(brassdozen_version() == BRASSDOZEN_VERSION);
     uint64_t nothing = 0;
     CHECK(brassdozen_refusal(brassdozen_encode(&nothing, 0)) == BRASSDOZEN_NO_WORD);

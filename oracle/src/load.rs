@@ -1,19 +1,18 @@
-//! Sections given to the proved lister, most of them damaged. What it gives has to be the oracle's
-//! listing, byte for byte.
+//! Sections given to the proved lister and converter, most of them damaged. What these give has to
+//! be what the oracle gives, byte for byte.
 
+use std::collections::BTreeMap;
 use std::fmt::{self, Display, Formatter};
 use std::io::{self, Write};
 use std::iter::Sum;
-use std::ops::Range;
 use std::process::{Command, Stdio};
 
 use crate::cores::on_every_core;
-use crate::made;
+use crate::damaged_section::{Way, made, ways};
 use crate::oracle::Oracle;
 use crate::proved::{Coded, Proved};
-use crate::random::Random;
 use crate::reports::Reports;
-use crate::section::{HEADER, MOST_WORDS, listing, program_listing};
+use crate::section::{converted, listing, program_listing};
 
 /// How many sections a core takes at a time.
 const UNIT: u64 = 64;
@@ -24,187 +23,30 @@ const ENOUGH: usize = 393_280;
 /// What a buffer holds before a call.
 const UNTOUCHED: u8 = 0xa5;
 
-/// How a section is made.
-#[derive(Debug, Clone, Copy)]
-enum Kind {
-    Good,
-    Cut,
-    Bit,
-    Byte,
-    Inserted,
-    Removed,
-    Mark,
-    Version,
-    Unaligned,
-    Beyond,
-    TooMany,
-    Doubled,
-    Headed,
-    Bytes,
-}
+/// The numbers that a section is refused with.
+const REFUSALS: [u8; 6] = [5, 6, 7, 8, 9, 11];
 
-impl Kind {
-    /// In the order of the cases, so that a case's number is its place here.
-    const ALL: [Kind; 14] = [
-        Kind::Good,
-        Kind::Cut,
-        Kind::Bit,
-        Kind::Byte,
-        Kind::Inserted,
-        Kind::Removed,
-        Kind::Mark,
-        Kind::Version,
-        Kind::Unaligned,
-        Kind::Beyond,
-        Kind::TooMany,
-        Kind::Doubled,
-        Kind::Headed,
-        Kind::Bytes,
-    ];
-
-    fn describe(self) -> &'static str {
-        match self {
-            Kind::Good => "good",
-            Kind::Cut => "cut short, anywhere",
-            Kind::Bit => "a bit turned, anywhere",
-            Kind::Byte => "a byte of the header changed",
-            Kind::Inserted => "one to four bytes put in, anywhere",
-            Kind::Removed => "one to four bytes taken out, anywhere",
-            Kind::Mark => "another mark",
-            Kind::Version => "another version",
-            Kind::Unaligned => "a base that is no multiple of 4",
-            Kind::Beyond => "a base near or beyond the last that fits",
-            Kind::TooMany => "4,095 to 4,098 words",
-            Kind::Doubled => "two of these",
-            Kind::Headed => "random bytes after a good header",
-            Kind::Bytes => "random bytes",
-        }
-    }
-}
-
-/// The section with this number, and how it was made.
-fn made(seed: u64, index: u64) -> (Kind, Vec<u8>) {
-    let random = &mut Random::new(seed, index);
-    let kind = random.pick(&Kind::ALL);
-    let bytes = match kind {
-        Kind::Bytes => bytes(random),
-        Kind::Headed => [&header(random)[..], &bytes(random)].concat(),
-        Kind::TooMany => {
-            let words = MOST_WORDS - 1 + random.place_below(4);
-            good(random, words)
-        }
-        kind => {
-            let words = word_count(random);
-            let mut section = good(random, words);
-            damage(kind, &mut section, random);
-            section
-        }
-    };
-    (kind, bytes)
-}
-
-/// Mark, version and a base that fits any number of words.
-fn header(random: &mut Random) -> [u8; HEADER] {
-    let [a, b, c, d] = (random.below(0xffff_c000) as u32 & !3).to_le_bytes();
-    [b'R', b'S', b'X', 1, 0, a, b, c, d]
-}
-
-fn good(random: &mut Random, words: usize) -> Vec<u8> {
-    let mut section = header(random).to_vec();
-    section.extend((0..words).flat_map(|_| made::word(random).to_le_bytes()));
-    section
-}
-
-/// Mostly few words, sometimes many.
-fn word_count(random: &mut Random) -> usize {
-    match random.below(40) {
-        0 => random.place_below(MOST_WORDS + 1),
-        1..10 => random.place_below(200),
-        _ => random.place_below(20),
-    }
-}
-
-/// Mostly few bytes, sometimes more than a section may have.
-fn bytes(random: &mut Random) -> Vec<u8> {
-    let most = random.pick(&[12, 12, 100, 100, 100, 100, 100, 20_000]);
-    let length = random.place_below(most);
-    (0..length).map(|_| random.bits() as u8).collect()
-}
-
-fn damage(kind: Kind, section: &mut Vec<u8>, random: &mut Random) {
-    match kind {
-        Kind::Good | Kind::TooMany | Kind::Headed | Kind::Bytes => {}
-        Kind::Cut => section.truncate(random.place_below(section.len() + 1)),
-        Kind::Bit => {
-            if !section.is_empty() {
-                let place = random.place_below(section.len());
-                section[place] ^= 1 << random.below(8);
-            }
-        }
-        Kind::Byte => change(section, 0..HEADER, random),
-        Kind::Inserted => {
-            for _ in 0..=random.below(4) {
-                section.insert(random.place_below(section.len() + 1), random.bits() as u8);
-            }
-        }
-        Kind::Removed => {
-            for _ in 0..=random.below(4) {
-                if !section.is_empty() {
-                    section.remove(random.place_below(section.len()));
-                }
-            }
-        }
-        Kind::Mark => change(section, 0..3, random),
-        Kind::Version => change(section, 3..5, random),
-        Kind::Unaligned => {
-            if section.len() > 5 {
-                section[5] |= 1 + random.below(3) as u8;
-            }
-        }
-        Kind::Beyond => {
-            // The base at which the last word ends at 2^32, and those beside it.
-            let words = section.len().saturating_sub(HEADER) / 4;
-            let last = 0u32.wrapping_sub(4 * words as u32);
-            let base = last
-                .wrapping_add(4 * random.below(5) as u32)
-                .wrapping_sub(8);
-            if section.len() >= HEADER {
-                section[5..HEADER].copy_from_slice(&base.to_le_bytes());
-            }
-        }
-        Kind::Doubled => {
-            for _ in 0..2 {
-                // One of the ways above, the good section left out.
-                let way = Kind::ALL[1 + random.place_below(Kind::TooMany as usize - 1)];
-                damage(way, section, random);
-            }
-        }
-    }
-}
-
-/// Another byte at one of these places.
-fn change(section: &mut [u8], places: Range<usize>, random: &mut Random) {
-    let place = places.start + random.place_below(places.len());
-    if place < section.len() {
-        section[place] ^= 1 + random.below(255) as u8;
-    }
-}
-
-/// How many sections of a kind were listed, and how many were refused with 5 to 9.
+/// How many sections of a kind were listed, and how many were refused with each number; and how
+/// many of those that were listed are refused with 12 if they are to be of version 1.
 #[derive(Default, Clone, Copy)]
 struct Outcomes {
     listed: u64,
-    refused: [u64; 5],
+    refused: [u64; REFUSALS.len()],
+    one_way: u64,
 }
 
 impl Outcomes {
     /// By the oracle's listing.
-    fn add(&mut self, listing: &str) {
+    fn add(&mut self, section: &[u8], listing: &str) {
         match listing.strip_prefix("refused ") {
-            None => self.listed += 1,
+            None => {
+                self.listed += 1;
+                self.one_way += u64::from(converted(section, 1) == Err(12));
+            }
             Some(number) => {
-                let number: usize = number.trim_end().parse().expect("a refusal's number");
-                self.refused[number - 5] += 1;
+                let number = number.trim_end().parse().expect("a refusal's number");
+                let place = REFUSALS.iter().position(|&refusal| refusal == number);
+                self.refused[place.expect("a section's refusal")] += 1;
             }
         }
     }
@@ -219,53 +61,68 @@ impl Sum for Outcomes {
         outcomes.fold(Outcomes::default(), |total, outcomes| Outcomes {
             listed: total.listed + outcomes.listed,
             refused: std::array::from_fn(|n| total.refused[n] + outcomes.refused[n]),
+            one_way: total.one_way + outcomes.one_way,
         })
     }
 }
 
-/// What became of the sections, by how they were made.
+/// What became of the sections, by the place of the way in which they were made.
 #[derive(Default)]
-pub struct Tally([Outcomes; Kind::ALL.len()]);
+pub struct Tally(BTreeMap<usize, Outcomes>);
 
 impl Sum for Tally {
     fn sum<I: Iterator<Item = Tally>>(tallies: I) -> Tally {
-        tallies.fold(Tally::default(), |total, tally| {
-            Tally(std::array::from_fn(|kind| {
-                [total.0[kind], tally.0[kind]].into_iter().sum()
-            }))
-        })
+        let mut total = Tally::default();
+        for (place, outcomes) in tallies.flat_map(|tally| tally.0) {
+            let so_far = total.0.entry(place).or_default();
+            *so_far = [*so_far, outcomes].into_iter().sum();
+        }
+        total
     }
 }
 
 impl Display for Tally {
     fn fmt(&self, f: &mut Formatter) -> fmt::Result {
+        let ways = ways();
         write!(f, "{:>9} {:>9}", "sections", "listed")?;
-        for number in 5..10 {
-            write!(f, " {:>9}", format!("refused {number}"))?;
+        for number in REFUSALS.into_iter().chain([12]) {
+            write!(f, " {:>10}", format!("refused {number}"))?;
         }
         let mut line = |outcomes: Outcomes, of: &str| {
             write!(f, "\n{:>9} {:>9}", outcomes.sections(), outcomes.listed)?;
             for refused in outcomes.refused {
-                write!(f, " {refused:>9}")?;
+                write!(f, " {refused:>10}")?;
             }
-            write!(f, "  {of}")
+            write!(f, " {:>10}  {of}", outcomes.one_way)
         };
-        for (kind, outcomes) in Kind::ALL.into_iter().zip(self.0) {
-            line(outcomes, kind.describe())?;
+        for (&place, &outcomes) in &self.0 {
+            line(outcomes, &ways[place].to_string())?;
         }
-        line(self.0.into_iter().sum(), "all")
+        let all = |is_meant: &dyn Fn(Way) -> bool| {
+            let meant = self.0.iter().filter(|(place, _)| is_meant(ways[**place]));
+            meant.map(|(_, &outcomes)| outcomes).sum()
+        };
+        for version in [1, 2] {
+            line(
+                all(&|way| way.version == version),
+                &format!("version {version}: all"),
+            )?;
+        }
+        line(all(&|_| true), "all")
     }
 }
 
-/// Gives `count` sections to the proved function, and says what became of them and how many were
-/// not listed as the oracle lists them.
+/// A function of the library that writes something of a section to the start of a buffer, and gives
+/// what `Coded::of` reads.
+type Writes = fn(section: &[u8], out: &mut [u8]) -> u64;
+
+/// Gives `count` sections to the proved functions, and says what became of them and how many were
+/// not listed or converted as the oracle does it.
 pub fn function(proved: Proved, count: u64, seed: u64) -> (Tally, u64) {
     load(count, seed, listing, |section, expected| {
-        let lists = |room| listed(proved, section, expected, room);
-        let length = expected.len();
-        lists(length)?;
-        lists(ENOUGH + 16)?;
-        lists(length - 1)
+        lists(proved.listing, section, expected)?;
+        converts(proved.to_v1, 1, section)?;
+        converts(proved.to_v2, 2, section)
     })
 }
 
@@ -287,6 +144,7 @@ fn load(
     expected: fn(&mut Oracle, &[u8]) -> String,
     check: impl Fn(&[u8], &[u8]) -> Result<(), String> + Sync,
 ) -> (Tally, u64) {
+    let ways = ways();
     let failures = Reports::new();
     let units: Vec<_> = (0..count)
         .step_by(UNIT as usize)
@@ -294,38 +152,64 @@ fn load(
         .collect();
     let tally = on_every_core(&units, |oracle, unit, tally: &mut Tally| {
         for index in unit.clone() {
-            let (kind, section) = made(seed, index);
+            let (place, section) = made(&ways, seed, index);
             let expected = expected(oracle, &section);
-            tally.0[kind as usize].add(&expected);
+            let outcomes = tally.0.entry(place).or_default();
+            outcomes.add(&section, &expected);
             if let Err(how) = check(&section, expected.as_bytes()) {
-                failures.add(|| format!("section {index}, {}: {how}", kind.describe()));
+                failures.add(|| format!("section {index}, {}: {how}", ways[place]));
             }
         }
     });
     (tally, failures.count())
 }
 
-/// Whether a buffer of this size gets the listing and nothing else, or, if it is too small, is left
-/// as it was.
-fn listed(proved: Proved, section: &[u8], expected: &[u8], room: usize) -> Result<(), String> {
+/// Whether a section is listed so: into a buffer that the listing just fills, into one with room
+/// for every listing, and not at all into one that is too short by a byte.
+fn lists(call: Writes, section: &[u8], expected: &[u8]) -> Result<(), String> {
+    for room in [expected.len(), ENOUGH + 16, expected.len() - 1] {
+        let how = writes(call, section, Ok(expected), room);
+        how.map_err(|how| format!("listed with room for {room}, {how}"))?;
+    }
+    Ok(())
+}
+
+/// Whether a section is converted as the oracle does it, into buffers that just fit, are longer,
+/// are too short by a byte and are empty; a refusal of its own comes whatever the buffer.
+fn converts(call: Writes, version: u16, section: &[u8]) -> Result<(), String> {
+    let expected = converted(section, version);
+    let length = expected.as_ref().map_or(section.len(), Vec::len);
+    for room in [length, length + 16, length.saturating_sub(1), 0] {
+        let how = writes(call, section, expected.as_deref().map_err(|&why| why), room);
+        how.map_err(|how| format!("to version {version} with room for {room}, {how}"))?;
+    }
+    Ok(())
+}
+
+/// Whether a buffer of this size gets these bytes and nothing else, or, if it is too small or there
+/// is a refusal, is left as it was.
+fn writes(
+    call: Writes,
+    section: &[u8],
+    right: Result<&[u8], u8>,
+    room: usize,
+) -> Result<(), String> {
     let mut out = vec![UNTOUCHED; room];
-    let given = Coded::of((proved.listing)(section, &mut out));
-    let (right, written) = if room < expected.len() {
-        (Coded::refused(10), 0)
-    } else {
-        (Coded::word(expected.len() as u32), expected.len())
+    let given = Coded::of(call(section, &mut out));
+    let (right, expected) = match right {
+        Err(refusal) => (Coded::refused(refusal), &[][..]),
+        Ok(expected) if room < expected.len() => (Coded::refused(10), &[][..]),
+        Ok(expected) => (Coded::word(expected.len() as u32), expected),
     };
     if given != right {
-        return Err(format!(
-            "with room for {room}, gives {given:?}, not {right:?}"
-        ));
+        return Err(format!("gives {given:?}, not {right:?}"));
     }
-    if out[..written] != expected[..written] {
-        let text = String::from_utf8_lossy(&out[..written]);
-        return Err(format!("with room for {room}, writes {text:?}"));
+    let (written, rest) = out.split_at(expected.len());
+    if written != expected {
+        return Err(format!("writes {:?}", String::from_utf8_lossy(written)));
     }
-    if out[written..].iter().any(|&byte| byte != UNTOUCHED) {
-        return Err(format!("with room for {room}, writes beyond its listing"));
+    if rest.iter().any(|&byte| byte != UNTOUCHED) {
+        return Err(format!("writes beyond its {} bytes", expected.len()));
     }
     Ok(())
 }
@@ -356,30 +240,116 @@ fn printed(command: &[&str], input: &[u8]) -> io::Result<Vec<u8>> {
 
 #[cfg(test)]
 mod tests {
-    use super::{Kind, made};
+    use super::{Writes, converts, lists, load};
     use crate::oracle::Oracle;
-    use crate::section::listing;
+    use crate::section::{Section, converted, listing};
 
-    /// Sections of these kinds have one fate, and every refusal has some section.
-    #[test]
-    fn sections_are_damaged_as_they_should_be() {
-        let mut oracle = Oracle::new();
-        let mut refused = [false; 10];
-        for index in 0..2_000 {
-            let (kind, section) = made(1, index);
-            let listing = listing(&mut oracle, &section);
-            let refusal = listing
-                .strip_prefix("refused ")
-                .map_or(0, |number| number.trim_end().parse().expect("a number"));
-            refused[refusal] = true;
-            match kind {
-                Kind::Good => assert_eq!(refusal, 0),
-                Kind::Mark => assert_eq!(refusal, 5),
-                Kind::Version => assert_eq!(refusal, 6),
-                Kind::Unaligned => assert_eq!(refusal, 9),
-                _ => {}
+    /// Stands in for a function of the library, which writes this or is refused with this.
+    fn write(text: Result<Vec<u8>, u8>, out: &mut [u8]) -> u64 {
+        match text {
+            Err(refusal) => u64::from(refusal) << 32,
+            Ok(text) if out.len() < text.len() => 10 << 32,
+            Ok(text) => {
+                out[..text.len()].copy_from_slice(&text);
+                text.len() as u64
             }
         }
-        assert!(refused[0] && refused[5..].iter().all(|&some| some));
+    }
+
+    fn right_listing(section: &[u8], out: &mut [u8]) -> u64 {
+        write(Ok(listing(&mut Oracle::new(), section).into_bytes()), out)
+    }
+
+    fn to_v1(section: &[u8], out: &mut [u8]) -> u64 {
+        write(converted(section, 1), out)
+    }
+
+    fn to_v2(section: &[u8], out: &mut [u8]) -> u64 {
+        write(converted(section, 2), out)
+    }
+
+    /// How many of 1,500 sections fail with these functions.
+    fn failures(lister: Writes, to_1: Writes, to_2: Writes) -> u64 {
+        let check = |section: &[u8], expected: &[u8]| {
+            lists(lister, section, expected)?;
+            converts(to_1, 1, section)?;
+            converts(to_2, 2, section)
+        };
+        load(1_500, 3, listing, check).1
+    }
+
+    /// A listing is a refusal of one line, and a conversion a refusal by number.
+    #[test]
+    fn right_functions_pass() {
+        assert_eq!(failures(right_listing, to_v1, to_v2), 0);
+    }
+
+    /// Functions with one fault each.
+    #[test]
+    fn wrong_functions_fail() {
+        /// The data as words.
+        fn no_data(section: &[u8], out: &mut [u8]) -> u64 {
+            let all_words = Section::read(section).map(|section| {
+                let ranges = Vec::new();
+                Section { ranges, ..section }.bytes()
+            });
+            right_listing(&all_words.unwrap_or(section.to_vec()), out)
+        }
+        /// One byte more than its own.
+        fn beyond(section: &[u8], out: &mut [u8]) -> u64 {
+            let length = to_v2(section, out);
+            if length >> 32 == 0 && (length as usize) < out.len() {
+                out[length as usize] = 0;
+            }
+            length
+        }
+        /// A refusal that has begun to write.
+        fn begins(section: &[u8], out: &mut [u8]) -> u64 {
+            let given = to_v1(section, out);
+            if given == 12 << 32 && !out.is_empty() {
+                out[0] = b'R';
+            }
+            given
+        }
+        /// 10 before the section's own.
+        fn room_first(section: &[u8], out: &mut [u8]) -> u64 {
+            let given = to_v1(section, out);
+            if given == 12 << 32 && out.len() < section.len() {
+                return 10 << 32;
+            }
+            given
+        }
+        /// Ranges that are dropped.
+        fn drops(section: &[u8], out: &mut [u8]) -> u64 {
+            let dropped = Section::read(section).map(|section| {
+                let (version, ranges) = (1, Vec::new());
+                Section {
+                    version,
+                    ranges,
+                    ..section
+                }
+                .bytes()
+            });
+            write(dropped, out)
+        }
+        /// The base before the ranges.
+        fn base_first(section: &[u8], out: &mut [u8]) -> u64 {
+            let given = to_v2(section, out);
+            if given == 11 << 32 && section[5] % 4 != 0 {
+                return 9 << 32;
+            }
+            given
+        }
+        let wrong: [(Writes, Writes, Writes); 6] = [
+            (no_data, to_v1, to_v2),
+            (right_listing, to_v1, beyond),
+            (right_listing, begins, to_v2),
+            (right_listing, room_first, to_v2),
+            (right_listing, drops, to_v2),
+            (right_listing, to_v1, base_first),
+        ];
+        for (lister, to_1, to_2) in wrong {
+            assert_ne!(failures(lister, to_1, to_2), 0);
+        }
     }
 }

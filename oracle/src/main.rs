@@ -10,6 +10,7 @@ mod conditions;
 mod cores;
 mod damage;
 mod damaged_row;
+mod damaged_section;
 mod digest;
 mod excepted;
 mod home;
@@ -57,7 +58,7 @@ modes of the oracle (numbers are hexadecimal, but COUNT and SEED; no SET is ever
   trip ADDRESS [SET]   has the proved code decode and encode each word, which gives its home word
   conditions ADDRESS [SET]  holds the words of each condition below 14 beside those of condition 14
   values COUNT SEED    has the proved code encode the rows of made-up values, and damaged rows
-  load COUNT SEED      has the proved code list made-up and damaged sections
+  load COUNT SEED      has the proved code list and convert made-up and damaged sections
   load COUNT SEED PROGRAM ..  runs the program on each instead
   SET                  FIRST COUNT, or 'branches'";
 

@@ -23,6 +23,9 @@ pub struct Proved {
     /// Writes the listing of a section to the start of `out`. Gives what `Coded::of` reads, with a
     /// length in the word's place.
     pub listing: fn(section: &[u8], out: &mut [u8]) -> u64,
+    /// Writes a section as one of version 1, or of 2, to the start of `out`. Gives the same.
+    pub to_v1: fn(section: &[u8], out: &mut [u8]) -> u64,
+    pub to_v2: fn(section: &[u8], out: &mut [u8]) -> u64,
 }
 
 /// What encoding gives: a word beside no refusal, or a refusal's number beside word 0.
@@ -72,6 +75,8 @@ pub const PROVED: Option<Proved> = Some(Proved {
     encode: linked::encode,
     encode_zeros: linked::encode_zeros,
     listing: linked::listing,
+    to_v1: linked::to_v1,
+    to_v2: linked::to_v2,
 });
 
 #[cfg(not(proved))]
@@ -89,6 +94,8 @@ mod linked {
         fn brassdozen_encode(row: *const u64, numbers: usize) -> u64;
         fn brassdozen_encode_zeros(row: *const u64, numbers: usize) -> u64;
         fn brassdozen_listing(section: *const u8, bytes: usize, out: *mut u8, room: usize) -> u64;
+        fn brassdozen_to_v1(section: *const u8, bytes: usize, out: *mut u8, room: usize) -> u64;
+        fn brassdozen_to_v2(section: *const u8, bytes: usize, out: *mut u8, room: usize) -> u64;
     }
 
     // Safety: a slice of Rattle's is a pointer and how many numbers it points at; it is only read
@@ -108,5 +115,13 @@ mod linked {
 
     pub fn listing(section: &[u8], out: &mut [u8]) -> u64 {
         unsafe { brassdozen_listing(section.as_ptr(), section.len(), out.as_mut_ptr(), out.len()) }
+    }
+
+    pub fn to_v1(section: &[u8], out: &mut [u8]) -> u64 {
+        unsafe { brassdozen_to_v1(section.as_ptr(), section.len(), out.as_mut_ptr(), out.len()) }
+    }
+
+    pub fn to_v2(section: &[u8], out: &mut [u8]) -> u64 {
+        unsafe { brassdozen_to_v2(section.as_ptr(), section.len(), out.as_mut_ptr(), out.len()) }
     }
 }

@@ -6,7 +6,7 @@
 #![no_std]
 
 /// The version that these declarations are of, as `BRASSDOZEN_VERSION` of the header says it.
-pub const VERSION: u32 = 20_000;
+pub const VERSION: u32 = 20_100;
 
 /// How many numbers a row has.
 pub const ROW: usize = 49;
@@ -16,6 +16,9 @@ pub const LINE: usize = 96;
 
 /// No listing has more bytes.
 pub const LISTING: usize = 393_280;
+
+/// No section that is accepted has more bytes.
+pub const SECTION: usize = 16_907;
 
 /// The number of a refusal.
 #[derive(Debug, Clone, Copy, PartialEq, Eq)]
@@ -34,8 +37,30 @@ impl Refusal {
     /// Encoding: no word's answer has this row.
     pub const NO_WORD: Refusal = Refusal(4);
 
+    /// A section: its mark is not RSX.
+    pub const BAD_MARK: Refusal = Refusal(5);
+
+    /// A section: its version is neither 1 nor 2.
+    pub const BAD_VERSION: Refusal = Refusal(6);
+
+    /// A section: shorter than 9 bytes, the count of ranges or a range cut short, or not whole words.
+    pub const BAD_LENGTH: Refusal = Refusal(7);
+
+    /// A section: more than 4,096 words.
+    pub const TOO_MANY_WORDS: Refusal = Refusal(8);
+
+    /// A section: its base is no multiple of 4, or its words go beyond the last address.
+    pub const BAD_BASE: Refusal = Refusal(9);
+
     /// Writing: longer than what is lent.
     pub const NO_ROOM: Refusal = Refusal(10);
+
+    /// A section: more than 64 ranges, or one that is empty, not in the section, or not after the
+    /// one before it.
+    pub const BAD_RANGES: Refusal = Refusal(11);
+
+    /// Converting to version 1: a section with ranges.
+    pub const HAS_RANGES: Refusal = Refusal(12);
 }
 
 impl core::error::Error for Refusal {}
@@ -49,11 +74,18 @@ impl core::fmt::Display for Refusal {
             3 => ": no instruction that is known here",
             4 => ": no word has this answer",
             5 => ": mark not RSX",
-            6 => ": version not 1",
-            7 => ": shorter than 9 bytes, or not whole words",
+            6 => ": version neither 1 nor 2",
+            7 => {
+                ": shorter than 9 bytes, the count of ranges or a range cut short, or not whole words"
+            }
             8 => ": more than 4,096 words",
             9 => ": base not a multiple of 4, or words beyond the last address",
             10 => ": longer than the lent buffer",
+            11 => {
+                ": more than 64 ranges of data, or one that is empty, not in the section, \
+                 or not after the one before it"
+            }
+            12 => ": ranges of data, which version 1 does not have",
             _ => "",
         };
         write!(f, "refused {}{why}", self.0)
@@ -113,6 +145,23 @@ pub fn listing(section: &[u8], out: &mut [u8]) -> Result<usize, Refusal> {
     given(number).map(|length| length as usize)
 }
 
+/// Writes a section as one of version 1 to the start of `out`, and gives its length. A refusal
+/// changes no byte.
+pub fn to_v1(section: &[u8], out: &mut [u8]) -> Result<usize, Refusal> {
+    let number = unsafe {
+        foreign::brassdozen_to_v1(section.as_ptr(), section.len(), out.as_mut_ptr(), out.len())
+    };
+    given(number).map(|length| length as usize)
+}
+
+/// The same for version 2.
+pub fn to_v2(section: &[u8], out: &mut [u8]) -> Result<usize, Refusal> {
+    let number = unsafe {
+        foreign::brassdozen_to_v2(section.as_ptr(), section.len(), out.as_mut_ptr(), out.len())
+    };
+    given(number).map(|length| length as usize)
+}
+
 /// A refusal's number, or 0.
 fn done(refusal: u8) -> Result<(), Refusal> {
     match refusal {
@@ -150,6 +199,18 @@ mod foreign {
         pub fn brassdozen_home_zeros(word: u32) -> u64;
         pub fn brassdozen_line(address: u64, word: u32, out: *mut u8, length: usize) -> u64;
         pub fn brassdozen_listing(
+            section: *const u8,
+            bytes: usize,
+            out: *mut u8,
+            length: usize,
+        ) -> u64;
+        pub fn brassdozen_to_v1(
+            section: *const u8,
+            bytes: usize,
+            out: *mut u8,
+            length: usize,
+        ) -> u64;
+        pub fn brassdozen_to_v2(
             section: *const u8,
             bytes: usize,
             out: *mut u8,

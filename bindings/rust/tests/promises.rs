@@ -6,8 +6,8 @@ use std::fs;
 use std::path::PathBuf;
 
 use brassdozen::{
-    LINE, LISTING, ROW, Refusal, VERSION, decode, decode_bytes, encode, encode_zeros, home,
-    home_zeros, line, listing, version,
+    LINE, LISTING, ROW, Refusal, SECTION, VERSION, decode, decode_bytes, encode, encode_zeros, home,
+    home_zeros, line, listing, to_v1, to_v2, version,
 };
 
 /// What a buffer holds before a call.
@@ -462,14 +462,23 @@ fn listing_of(section: &[u8]) -> Vec<u8> {
     out[..length].to_vec()
 }
 
+/// The sections of `crates/listings`, as far as the program reads them, and their names.
+fn stored_sections() -> Vec<(String, Vec<u8>)> {
+    let names = stored_text("listings/args");
+    let sections = names.lines().map(|name| {
+        let mut section = stored(&format!("listings/data/{name}"));
+        let version_1 = section.get(3..5) == Some(&[1, 0]);
+        section.truncate(if version_1 { 16_397 } else { 16_911 });
+        (name.to_string(), section)
+    });
+    sections.collect()
+}
+
 /// The sections of `crates/listings`, and what the oracle's answers make of them.
 #[test]
 fn listings_are_those_of_the_rust() {
     let mut expected = stored("listings/stdout").into_iter();
-    for name in stored_text("listings/args").lines() {
-        let mut section = stored(&format!("listings/data/{name}"));
-        // The program reads so much of a longer input.
-        section.truncate(16_397);
+    for (name, section) in stored_sections() {
         let whole = listing_of(&section);
         let named: Vec<u8> = expected
             .by_ref()
@@ -488,25 +497,92 @@ fn listings_are_those_of_the_rust() {
     assert_eq!(expected.next(), None);
 }
 
-/// A listing is its header, the lines of its words and its counts.
+/// A section of version 1 with these words, and one of version 2 with these ranges, each a first
+/// place and a number of words.
+fn section_1(base: u32, words: &[u32]) -> Vec<u8> {
+    let mut section = b"RSX\x01\x00".to_vec();
+    section.extend(base.to_le_bytes());
+    section.extend(words.iter().flat_map(|word| word.to_le_bytes()));
+    section
+}
+
+fn section_2(base: u32, ranges: &[(u32, u32)], words: &[u32]) -> Vec<u8> {
+    let mut section = b"RSX\x02\x00".to_vec();
+    section.extend(base.to_le_bytes());
+    section.extend((ranges.len() as u16).to_le_bytes());
+    for (first, words) in ranges {
+        section.extend(first.to_le_bytes());
+        section.extend(words.to_le_bytes());
+    }
+    section.extend(words.iter().flat_map(|word| word.to_le_bytes()));
+    section
+}
+
+/// A base, words and ranges of data among them; some touch.
+fn random_section(random: &mut Random) -> (u32, Vec<u32>, Vec<(u32, u32)>) {
+    let base = random.bits() as u32 & 0x7fff_fffc;
+    let words: Vec<u32> = (0..random.below(40)).map(|_| random.word()).collect();
+    let mut ranges = Vec::new();
+    let mut place = random.below(8);
+    while place < words.len() as u64 {
+        let most = words.len() as u64 - place;
+        let count = 1 + random.below(most.min(5));
+        ranges.push((place as u32, count as u32));
+        place += count + random.below(6);
+    }
+    (base, words, ranges)
+}
+
+/// A listing is its header, the lines of its words and its counts; where a range of data has a word,
+/// the line ends so.
 #[test]
 fn listings_are_made_of_lines() {
     let mut random = Random(7);
     for _ in 0..2_000 {
-        let base = random.bits() as u32 & 0x7fff_fffc;
-        let words: Vec<u32> = (0..random.below(40)).map(|_| random.word()).collect();
-        let mut section = b"RSX\x01\x00".to_vec();
-        section.extend(base.to_le_bytes());
-        section.extend(words.iter().flat_map(|word| word.to_le_bytes()));
+        let (base, words, ranges) = random_section(&mut random);
         let count = words.len();
+        let lines = |is_data: &dyn Fn(usize) -> bool| -> Vec<u8> {
+            let addresses = (base..).step_by(4);
+            let line = |(place, (address, &word)): (usize, (u32, &u32))| {
+                if is_data(place) {
+                    format!("{address:08x} {word:08x} data\n").into_bytes()
+                } else {
+                    line_of(address.into(), word)
+                }
+            };
+            addresses.zip(&words).enumerate().flat_map(line).collect()
+        };
+        let named = |is_data: &dyn Fn(usize) -> bool| {
+            let code = words
+                .iter()
+                .enumerate()
+                .filter(|&(place, _)| !is_data(place));
+            code.filter(|&(_, &word)| home(word).is_ok()).count()
+        };
+
+        let none = |_| false;
+        let refused = count - named(&none);
         let mut expected = format!("RSX 1 {base:08x} {count}\n").into_bytes();
-        for (address, &word) in (base..).step_by(4).zip(&words) {
-            expected.extend(line_of(address.into(), word));
-        }
-        let named = words.iter().filter(|&&word| home(word).is_ok()).count();
-        let refused = count - named;
-        expected.extend(format!("{count} words {named} named {refused} refused\n").bytes());
+        expected.extend(lines(&none));
+        let counts = format!("{count} words {} named {refused} refused\n", named(&none));
+        expected.extend(counts.bytes());
+        let mut section = section_1(base, &words);
         assert_eq!(listing_of(&section), expected);
+
+        let some = |place| {
+            let has = |&(first, words)| (first..first + words).contains(&(place as u32));
+            ranges.iter().any(has)
+        };
+        let data = (0..count).filter(|&place| some(place)).count();
+        let refused = count - data - named(&some);
+        let mut expected = format!("RSX 2 {base:08x} {count}\n").into_bytes();
+        expected.extend(lines(&some));
+        let counts = format!(
+            "{count} words {} named {refused} refused {data} data\n",
+            named(&some)
+        );
+        expected.extend(counts.bytes());
+        assert_eq!(listing_of(&section_2(base, &ranges, &words)), expected);
 
         // Cut short by less than a word, it is refused, and so is another mark.
         if count > 0 {
@@ -515,5 +591,83 @@ fn listings_are_made_of_lines() {
         }
         section[random.below(3) as usize] ^= 1 << random.below(8);
         assert_eq!(listing_of(&section), b"refused 5\n");
+    }
+}
+
+/// Without ranges, each version is converted to the other and back; with some, to its own alone.
+#[test]
+fn sections_are_converted_whole_or_not_at_all() {
+    let mut random = Random(10);
+    for _ in 0..2_000 {
+        let (base, words, ranges) = random_section(&mut random);
+        let one = section_1(base, &words);
+        let two = section_2(base, &[], &words);
+        let rooms = |whole: &[u8]| [0, whole.len() - 1, whole.len(), whole.len() + 3, SECTION];
+        for section in [&one, &two] {
+            whole_or_nothing(&one, rooms(&one), |out| to_v1(section, out));
+            whole_or_nothing(&two, rooms(&two), |out| to_v2(section, out));
+        }
+        if !ranges.is_empty() {
+            let data = section_2(base, &ranges, &words);
+            whole_or_nothing(&data, rooms(&data), |out| to_v2(&data, out));
+            refused(&data, Refusal::HAS_RANGES, &[to_v1]);
+        }
+    }
+    let most = vec![0xe1a0_0000; 4096];
+    let ranges: Vec<(u32, u32)> = (0..64).map(|n| (64 * n, 64)).collect();
+    let longest = section_2(0x8000, &ranges, &most);
+    assert_eq!(longest.len(), SECTION);
+    whole_or_nothing(&longest, [SECTION - 1, SECTION], |out| to_v2(&longest, out));
+}
+
+type Convert = fn(&[u8], &mut [u8]) -> Result<usize, Refusal>;
+
+/// Whatever the room, each function refuses the section with this, and changes nothing.
+fn refused(section: &[u8], refusal: Refusal, functions: &[Convert]) {
+    for function in functions {
+        for room in [0, section.len(), section.len() + 3] {
+            let mut out = vec![UNTOUCHED; room];
+            assert_eq!(function(section, &mut out), Err(refusal), "{room}");
+            assert!(out.iter().all(|&byte| byte == UNTOUCHED), "{room}");
+        }
+    }
+}
+
+/// What has no listing has no other version: it is refused with the number of its listing, before
+/// anything else.
+#[test]
+fn sections_are_refused_as_their_listings_say() {
+    let mut seen = Vec::new();
+    for (name, section) in stored_sections() {
+        let listing = String::from_utf8(listing_of(&section)).expect("a text");
+        match listing.strip_prefix("refused ") {
+            Some(number) => {
+                let refusal = Refusal(number.trim_end().parse().expect("a number"));
+                refused(&section, refusal, &[to_v1, to_v2]);
+                seen.push(refusal);
+            }
+            None if listing.ends_with(" data\n") && !listing.ends_with(" 0 data\n") => {
+                refused(&section, Refusal::HAS_RANGES, &[to_v1]);
+                whole_or_nothing(&section, [section.len()], |out| to_v2(&section, out));
+            }
+            None => {
+                let mut out = vec![UNTOUCHED; SECTION];
+                let length = to_v1(&section, &mut out).expect(&name);
+                let mut back = vec![UNTOUCHED; SECTION];
+                let two = to_v2(&out[..length], &mut back).expect(&name);
+                assert_eq!(two, length + 2, "{name}");
+                assert_eq!(out[9..length], back[11..two], "{name}");
+            }
+        }
+    }
+    for refusal in [
+        Refusal::BAD_MARK,
+        Refusal::BAD_VERSION,
+        Refusal::BAD_LENGTH,
+        Refusal::TOO_MANY_WORDS,
+        Refusal::BAD_BASE,
+        Refusal::BAD_RANGES,
+    ] {
+        assert!(seen.contains(&refusal), "{refusal}");
     }
 }

@@ -11,6 +11,8 @@ use Rattle.brassdozen.proofs.brassdozen_home.Reads as home
 use Rattle.brassdozen.proofs.brassdozen_home_zeros.Reads as home-zeros
 use Rattle.brassdozen.proofs.brassdozen_line.Reads as line
 use Rattle.brassdozen.proofs.brassdozen_listing.Reads as listing
+use Rattle.brassdozen.proofs.brassdozen_to_v1.Reads as to-v1
+use Rattle.brassdozen.proofs.brassdozen_to_v2.Reads as to-v2
 
 pub version-only : (κs : _) (a : _) (r r′ : _) (s s′ : _) → version.Post κs a r s → version.Post κs a r′ s′ → r ≡ r′
 version-only κs a r r′ s s′ p q = p ∙ sym q
@@ -41,3 +43,9 @@ line-only κs a r r′ s s′ p q = (p .0 ∙ sym (q .0), p .1 ∙ sym (q .1))
 pub listing-only : (κs : _) (a : _) (r r′ : _) (s s′ : _) → listing.Post κs a r s → listing.Post κs a r′ s′
     → (r ≡ r′) × (now (s .1 .0) ≡ now (s′ .1 .0))
 listing-only κs a r r′ s s′ p q = (p .0 ∙ sym (q .0), p .1 ∙ sym (q .1))
+
+pub to-v1-only : (κs : _) (a : _) (r r′ : _) (s s′ : _) → to-v1.Post κs a r s → to-v1.Post κs a r′ s′ → (r ≡ r′) × (now (s .1 .0) ≡ now (s′ .1 .0))
+to-v1-only κs a r r′ s s′ p q = (p .0 ∙ sym (q .0), p .1 ∙ sym (q .1))
+
+pub to-v2-only : (κs : _) (a : _) (r r′ : _) (s s′ : _) → to-v2.Post κs a r s → to-v2.Post κs a r′ s′ → (r ≡ r′) × (now (s .1 .0) ≡ now (s′ .1 .0))
+to-v2-only κs a r r′ s s′ p q = (p .0 ∙ sym (q .0), p .1 ∙ sym (q .1))

@@ -14,11 +14,13 @@ use Rattle.encode.specs.Encode.{homeAnswer}
 use Rattle.insn_value.specs.Value.{insnFrom}
 use Rattle.word_packed.specs.Packed.{packed}
 use Rattle.text.specs.Fits.{answerOf, lastOf}
+use Rattle.section_convert.specs.Convert.{givenOf}
+use Rattle.section_convert.specs.declared.Target.{Target}
 use Rattle.insn_row.specs.Row.{ROW, rowOf, numbersOf, holds}
 
--- 2.0.0
+-- 2.1.0
 abbrev pub VERSION : ℕ
-VERSION = 20000
+VERSION = 20100
 
 -- an answer's refusal; or, of an accepted one, 10 if its row is longer than what is lent
 abbrev pub rowRefusal : Decoded → List ℕ → ℕ
@@ -51,3 +53,7 @@ homedOf c w = packed (homeAnswer c w .refusal) (homeAnswer c w .word)
 -- the length of a text, or 10 if it is longer than what is lent
 abbrev pub writtenOf : List ℕ → List ℕ → ℕ
 writtenOf text out = packed (answerOf text out .refusal) (answerOf text out .len)
+
+-- the length of a converted section, or the refusal's number
+abbrev pub convertedTo : Target → List ℕ → List ℕ → ℕ
+convertedTo target section out = packed (givenOf target section out .refusal) (givenOf target section out .len)

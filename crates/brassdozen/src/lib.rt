@@ -11,21 +11,24 @@ use insn_row::put_row;
 use insn_value::insn_from;
 use line::line;
 use listing_text::listing;
+use section_convert::Target;
+use section_convert::convert;
 use word::refusal::NO_WORD;
 use word_packed::pack;
 ghost use mathlib.Core.Path.{_≡_};
 ghost use Rattle.a32.specs.Decode.{decodeOf, decodeBytesOf};
 ghost use Rattle.text.specs.Fits.{answerOf, lastOf};
 ghost use Rattle.line_spelling.specs.Line.{lineOf};
+ghost use Rattle.section_convert.specs.Convert.{leftOf};
 ghost use Rattle.listing_text.specs.Listing.{listingOf};
-ghost use Rattle.brassdozen.specs.Given.{VERSION, rowRefusal, rowLast, encodedOf, homedOf, writtenOf};
+ghost use Rattle.brassdozen.specs.Given.{VERSION, rowRefusal, rowLast, encodedOf, homedOf, writtenOf, convertedTo};
 
 /// The library's version: 10,000 for each major one, 100 for each minor one, and one for each patch.
 #[no_mangle]
 pub extern "C" fn brassdozen_version() -> u32
     ensures { λ r. ⌜ r ≡ VERSION ⌝ }
 {
-    20_000
+    20_100
 }
 
 /// Decodes `word` at `addr` into the row of its answer, and gives 0; or gives a refusal's number.
@@ -131,5 +134,25 @@ pub extern "C" fn brassdozen_listing(section: &[u8], out: &mut [u8]) -> u64
     ensures { λ _. ⌜ now (out .exit) ≡ lastOf (listingOf (now (section .entry))) (now (out .entry)) ⌝ }
 {
     let w = listing(section, out);
+    pack(w.refusal, w.len as u32)
+}
+
+/// Writes `section` as one of version 1, and gives its length, with a refusal's number above it.
+#[no_mangle]
+pub extern "C" fn brassdozen_to_v1(section: &[u8], out: &mut [u8]) -> u64
+    ensures { λ r. ⌜ r ≡ convertedTo Target.One (now (section .entry)) (now (out .entry)) ⌝ }
+    ensures { λ _. ⌜ now (out .exit) ≡ leftOf Target.One (now (section .entry)) (now (out .entry)) ⌝ }
+{
+    let w = convert(section, Target::One, out);
+    pack(w.refusal, w.len as u32)
+}
+
+/// Writes `section` as one of version 2, as `brassdozen_to_v1` does as one of version 1.
+#[no_mangle]
+pub extern "C" fn brassdozen_to_v2(section: &[u8], out: &mut [u8]) -> u64
+    ensures { λ r. ⌜ r ≡ convertedTo Target.Two (now (section .entry)) (now (out .entry)) ⌝ }
+    ensures { λ _. ⌜ now (out .exit) ≡ leftOf Target.Two (now (section .entry)) (now (out .entry)) ⌝ }
+{
+    let w = convert(section, Target::Two, out);
     pack(w.refusal, w.len as u32)
 }

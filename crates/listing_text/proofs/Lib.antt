@@ -2,4 +2,5 @@
 pub mod Grow
 pub mod Enough
 pub mod Laid
+pub mod Example
 pub mod Unique

@@ -6,6 +6,7 @@ use line::put_answered;
 use line::put_refused;
 use section::Here;
 use section::Opened;
+use section::is_end;
 use section::open;
 use section::read;
 use text::Written;
@@ -15,6 +16,7 @@ use text::put_decimal;
 use text::put_hex;
 use word::refusal::NO_ROOM;
 ghost use mathlib.Core.Path.{_≡_};
+ghost use mathlib.Core.List.{_++_};
 ghost use Prim.Native.Nat.{_+_, _*_, _≤_, _<_};
 ghost use lib.Dec.{eqb, leb};
 ghost use lib.ListN.{length};
@@ -22,10 +24,15 @@ ghost use Rattle.word.specs.Choice.{pick};
 ghost use Rattle.text.specs.Fits.{answerOf, lastOf};
 ghost use Rattle.text.specs.Put.{Room, Put};
 ghost use Rattle.section.specs.Section.{openedOf, placesOf};
-ghost use Rattle.listing_text.specs.Listing.{headerOf, lineHere, linesOf, namedHere, namedOf, closingOf, listedOf, refusalLine, listingOf};
+ghost use Rattle.text.specs.Text.{decimalOf};
+ghost use Rattle.listing_text.specs.Listing.{headerOf, dataLine, lineHere, linesOf, namedHere, dataHere, total, lastCount, closes};
+ghost use Rattle.listing_text.specs.Listing.{listedOf, refusalLine, listingOf};
 
 /// The lines around those of the words take no more bytes.
 const AROUND: usize = 64;
+
+/// A data word's line: two numbers of eight digits, a space after each, `data` and a newline.
+const DATA_LINE: usize = 23;
 
 /// A buffer of so many bytes takes the listing of every section.
 pub const ENOUGH: usize = AROUND + 4096 * MOST;
@@ -81,7 +88,7 @@ fn put_listed(out: &mut [u8], section: &[u8], opened: Opened) -> usize
 {
     let at = put_header(out, opened);
     let lines = put_lines(out, at, section, opened);
-    put_closing(out, lines.at, opened.count, lines.named)
+    put_closing(out, lines.at, opened, lines.named, lines.pool)
 }
 
 /// The listing of one that is not.
@@ -106,28 +113,48 @@ fn put_header(out: &mut [u8], opened: Opened) -> usize
     put_byte(out, at, b'\n')
 }
 
-/// Where the lines so far end, and how many of their words are named.
+/// Where the lines so far end, how many of their words are named, and how many are data.
 struct Lines {
     at: usize,
     named: u32,
+    pool: u32,
 }
 
 fn put_lines(out: &mut [u8], at: usize, section: &[u8], opened: Opened) -> Lines
     requires { ⌜ opened ≡ openedOf (now section) ⌝ }
     requires { ⌜ Room (now out) at (linesOf (placesOf (now section))) ⌝ }
     ensures { λ r. ⌜ Put (now (out .entry)) at (linesOf (placesOf (now (section .entry)))) (r .at) (now (out .exit)) ⌝ }
-    ensures { λ r. ⌜ r .named ≡ namedOf (placesOf (now (section .entry))) ⌝ }
+    ensures { λ r. ⌜ r .named ≡ total namedHere (placesOf (now (section .entry))) ⌝ }
+    ensures { λ r. ⌜ r .pool ≡ total dataHere (placesOf (now (section .entry))) ⌝ }
 {
-    let mut lines = Lines { at, named: 0 };
+    let mut lines = Lines {
+        at,
+        named: 0,
+        pool: 0,
+    };
     let mut place = 0;
     loop {
         let step = read(section, opened, place);
         let here = step.here;
-        match here {
-            Here::Word(word, addr) => lines = put_next(out, lines, word, addr),
-            Here::End => return lines,
+        if is_end(here) {
+            return lines;
         }
+        lines = put_here(out, lines, here);
         place = step.after;
+    }
+}
+
+/// The lines with that of what stands at the next place.
+fn put_here(out: &mut [u8], lines: Lines, here: Here) -> Lines
+    requires { ⌜ (lines .named < 4096) × (lines .pool < 4096) ⌝ }
+    requires { ⌜ Room (now out) (lines .at) (lineHere here) ⌝ }
+    ensures { λ r. ⌜ Put (now (out .entry)) (lines .at) (lineHere here) (r .at) (now (out .exit)) ⌝ }
+    ensures { λ r. ⌜ (r .named ≡ lines .named + namedHere here) × (r .pool ≡ lines .pool + dataHere here) ⌝ }
+{
+    match here {
+        Here::Word(word, addr) => put_next(out, lines, word, addr),
+        Here::Data(word, addr) => put_data(out, lines, word, addr),
+        Here::End => lines,
     }
 }
 
@@ -136,14 +163,39 @@ fn put_next(out: &mut [u8], lines: Lines, word: u32, addr: u32) -> Lines
     requires { ⌜ lines .named < 4096 ⌝ }
     requires { ⌜ Room (now out) (lines .at) (lineHere (Here.Word word addr)) ⌝ }
     ensures { λ r. ⌜ Put (now (out .entry)) (lines .at) (lineHere (Here.Word word addr)) (r .at) (now (out .exit)) ⌝ }
-    ensures { λ r. ⌜ r .named ≡ lines .named + namedHere (Here.Word word addr) ⌝ }
+    ensures { λ r. ⌜ (r .named ≡ lines .named + namedHere (Here.Word word addr)) × (r .pool ≡ lines .pool + dataHere (Here.Word word addr)) ⌝ }
 {
     let addr = addr as u64;
     let d = decode(word, addr);
     Lines {
         at: put_answered(out, lines.at, addr, word, d),
         named: lines.named + one_named(d),
+        pool: lines.pool,
     }
+}
+
+/// The lines with that of the data `word` at `addr`.
+fn put_data(out: &mut [u8], lines: Lines, word: u32, addr: u32) -> Lines
+    requires { ⌜ lines .pool < 4096 ⌝ }
+    requires { ⌜ Room (now out) (lines .at) (lineHere (Here.Data word addr)) ⌝ }
+    ensures { λ r. ⌜ Put (now (out .entry)) (lines .at) (lineHere (Here.Data word addr)) (r .at) (now (out .exit)) ⌝ }
+    ensures { λ r. ⌜ (r .named ≡ lines .named + namedHere (Here.Data word addr)) × (r .pool ≡ lines .pool + dataHere (Here.Data word addr)) ⌝ }
+{
+    Lines {
+        at: put_data_line(out, lines.at, word, addr),
+        named: lines.named,
+        pool: lines.pool + 1,
+    }
+}
+
+fn put_data_line(out: &mut [u8], at: usize, word: u32, addr: u32) -> usize
+    requires { ⌜ Room (now out) at (dataLine addr word) ⌝ }
+    ensures { λ r. ⌜ Put (now (out .entry)) at (dataLine addr word) r (now (out .exit)) ⌝ }
+{
+    let at = put_hex(out, at, addr, 8);
+    let at = put_byte(out, at, b' ');
+    let at = put_hex(out, at, word, 8);
+    put(out, at, b" data\n")
 }
 
 fn one_named(d: Decoded) -> u32
@@ -152,17 +204,37 @@ fn one_named(d: Decoded) -> u32
     if d.refusal == 0 { 1 } else { 0 }
 }
 
-fn put_closing(out: &mut [u8], at: usize, count: u32, named: u32) -> usize
-    requires { ⌜ named ≤ count ⌝ }
-    requires { ⌜ Room (now out) at (closingOf count named) ⌝ }
-    ensures { λ r. ⌜ Put (now (out .entry)) at (closingOf count named) r (now (out .exit)) ⌝ }
+fn put_closing(out: &mut [u8], at: usize, opened: Opened, named: u32, pool: u32) -> usize
+    requires { ⌜ named + pool ≤ opened .count ⌝ }
+    requires { ⌜ Room (now out) at (closes opened named pool) ⌝ }
+    ensures { λ r. ⌜ Put (now (out .entry)) at (closes opened named pool) r (now (out .exit)) ⌝ }
 {
-    let at = put_decimal(out, at, count as u64);
-    let at = put(out, at, b" words ");
-    let at = put_decimal(out, at, named as u64);
-    let at = put(out, at, b" named ");
-    let at = put_decimal(out, at, (count - named) as u64);
-    put(out, at, b" refused\n")
+    let at = put_count(out, at, opened.count, b" words ");
+    let at = put_count(out, at, named, b" named ");
+    let at = put_count(out, at, opened.count - named - pool, b" refused");
+    let at = put_last_count(out, at, opened.version, pool);
+    put_byte(out, at, b'\n')
+}
+
+/// Of version 2 alone: how many words are data.
+fn put_last_count(out: &mut [u8], at: usize, version: u16, pool: u32) -> usize
+    requires { ⌜ Room (now out) at (lastCount version pool) ⌝ }
+    ensures { λ r. ⌜ Put (now (out .entry)) at (lastCount version pool) r (now (out .exit)) ⌝ }
+{
+    if version == 2 {
+        let at = put_byte(out, at, b' ');
+        put_count(out, at, pool, b" data")
+    } else {
+        at
+    }
+}
+
+fn put_count(out: &mut [u8], at: usize, n: u32, what: &[u8]) -> usize
+    requires { ⌜ Room (now out) at (decimalOf n ++ now what) ⌝ }
+    ensures { λ r. ⌜ Put (now (out .entry)) at (decimalOf n ++ now (what .entry)) r (now (out .exit)) ⌝ }
+{
+    let at = put_decimal(out, at, n as u64);
+    put(out, at, what)
 }
 
 /// The length of the listing, as it would be written.
@@ -186,7 +258,7 @@ fn listed_len(section: &[u8], opened: Opened) -> usize
     let mut own = [0u8; MOST];
     let header = put_header(&mut own, opened);
     let lines = lines_len(section, opened);
-    let closing = put_closing(&mut own, 0, opened.count, lines.named);
+    let closing = put_closing(&mut own, 0, opened, lines.named, lines.pool);
     header + lines.at + closing
 }
 
@@ -194,26 +266,44 @@ fn listed_len(section: &[u8], opened: Opened) -> usize
 fn lines_len(section: &[u8], opened: Opened) -> Lines
     requires { ⌜ opened ≡ openedOf (now section) ⌝ }
     ensures { λ r. ⌜ r .at ≡ length (linesOf (placesOf (now (section .entry)))) ⌝ }
-    ensures { λ r. ⌜ r .named ≡ namedOf (placesOf (now (section .entry))) ⌝ }
+    ensures { λ r. ⌜ r .named ≡ total namedHere (placesOf (now (section .entry))) ⌝ }
+    ensures { λ r. ⌜ r .pool ≡ total dataHere (placesOf (now (section .entry))) ⌝ }
 {
-    let mut lines = Lines { at: 0, named: 0 };
+    let mut lines = Lines {
+        at: 0,
+        named: 0,
+        pool: 0,
+    };
     let mut place = 0;
     loop {
         let step = read(section, opened, place);
         let here = step.here;
-        match here {
-            Here::Word(word, addr) => lines = add_next(lines, word, addr),
-            Here::End => return lines,
+        if is_end(here) {
+            return lines;
         }
+        lines = add_here(lines, here);
         place = step.after;
     }
 }
 
-/// The lines with that of `word` at `addr`, of which the length alone is kept.
+/// The lines with that of what stands at the next place, of which the length alone is kept.
+fn add_here(lines: Lines, here: Here) -> Lines
+    requires { ⌜ (lines .named < 4096) × (lines .pool < 4096) × (lines .at < 96 * 4096) ⌝ }
+    ensures { λ r. ⌜ r .at ≡ lines .at + length (lineHere here) ⌝ }
+    ensures { λ r. ⌜ (r .named ≡ lines .named + namedHere here) × (r .pool ≡ lines .pool + dataHere here) ⌝ }
+{
+    match here {
+        Here::Word(word, addr) => add_next(lines, word, addr),
+        Here::Data(word, addr) => add_data(lines, word, addr),
+        Here::End => lines,
+    }
+}
+
+/// The lines with that of `word` at `addr`.
 fn add_next(lines: Lines, word: u32, addr: u32) -> Lines
     requires { ⌜ (lines .named < 4096) × (lines .at < 96 * 4096) ⌝ }
     ensures { λ r. ⌜ r .at ≡ lines .at + length (lineHere (Here.Word word addr)) ⌝ }
-    ensures { λ r. ⌜ r .named ≡ lines .named + namedHere (Here.Word word addr) ⌝ }
+    ensures { λ r. ⌜ (r .named ≡ lines .named + namedHere (Here.Word word addr)) × (r .pool ≡ lines .pool + dataHere (Here.Word word addr)) ⌝ }
 {
     let mut own = [0u8; MOST];
     let one = put_next(
@@ -221,6 +311,7 @@ fn add_next(lines: Lines, word: u32, addr: u32) -> Lines
         Lines {
             at: 0,
             named: lines.named,
+            pool: lines.pool,
         },
         word,
         addr,
@@ -228,5 +319,19 @@ fn add_next(lines: Lines, word: u32, addr: u32) -> Lines
     Lines {
         at: lines.at + one.at,
         named: one.named,
+        pool: one.pool,
+    }
+}
+
+/// The lines with that of the data `word` at `addr`: such lines are all of one length.
+fn add_data(lines: Lines, word: u32, addr: u32) -> Lines
+    requires { ⌜ (lines .pool < 4096) × (lines .at < 96 * 4096) ⌝ }
+    ensures { λ r. ⌜ r .at ≡ lines .at + length (lineHere (Here.Data word addr)) ⌝ }
+    ensures { λ r. ⌜ (r .named ≡ lines .named + namedHere (Here.Data word addr)) × (r .pool ≡ lines .pool + dataHere (Here.Data word addr)) ⌝ }
+{
+    Lines {
+        at: lines.at + DATA_LINE,
+        named: lines.named,
+        pool: lines.pool + 1,
     }
 }

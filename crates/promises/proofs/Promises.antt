@@ -1,15 +1,15 @@
 -- What is promised, on one page, of the contracts that the code is proved to meet: that every input is taken without fault, that the decoder follows
 -- the manual, that different work has different answers, and what stands beside these. Each statement is proved in a line or two from those that
 -- docs/THEOREMS.md lists. Assumes nothing.
-use mathlib.Core.Path.{_≡_, sym, _∙_}
+use mathlib.Core.Path.{_≡_, refl, sym, _∙_}
 use mathlib.Core.Bool.{true, false, not}
 use mathlib.Core.List.{List, _++_}
 use mathlib.Core.Logic.{_↔_}
-use Prim.Native.Nat.{ℕ, _^_, _<_, _≤_}
+use Prim.Native.Nat.{ℕ, _+_, _*_, _^_, _<_, _≤_}
 use borrow.Author.Tests.{ne-eqb, lt-ltb, le-ltb}
 use base.Fml.{Lft}
 use denote.Ref.{RefT, now}
-use lib.ListN.{length, drop}
+use lib.ListN.{length, take, drop}
 use Rattle.word.specs.Bytes.{wordAt}
 use Rattle.word.specs.Field.{field}
 use Rattle.insn.specs.Answer.{accepted, refused}
@@ -23,11 +23,17 @@ use Rattle.encode_home.specs.Home.{homeOf}
 use Rattle.encode_home.specs.Alike.{Alike}
 use Rattle.encode.specs.declared.Encoded.{Encoded}
 use Rattle.word_packed.specs.Packed.{packed}
-use Rattle.section.specs.Section.{refusalOf}
+use Rattle.section.specs.Section.{versionOf, baseOf, rangeCount, firsts, countOf, refusalOf, placesOf}
+use Rattle.section.specs.Accepted.{Accepted}
+use Rattle.section.specs.declared.Here.the-variants.{Word as WordHere, Data}
 use Rattle.section.specs.declared.Opened.{Opened}
+use Rattle.section_convert.specs.Convert.{numberOf, ownOf, convertedOf, conversionRefusal}
+use Rattle.section_convert.specs.declared.Target.{Target}
+use Rattle.section_convert.specs.declared.Target.the-variants.{One, Two}
+use Rattle.text.specs.Text.{bytes, decimalOf, hexOf}
 use Rattle.text.specs.declared.Written.{Written}
 use Rattle.line_spelling.specs.Line.{answerText, lineText}
-use Rattle.listing_text.specs.Listing.{listingOf}
+use Rattle.listing_text.specs.Listing.{dataLine, lineHere, namedHere, refusedHere, dataHere, total, closingOf, listingOf}
 use Rattle.promises_predicated.specs.Predicated.{under}
 use Rattle.manual.specs.A5.{tableRow}
 use Rattle.manual.specs.A8.{rowOf as pageOf}
@@ -43,6 +49,7 @@ use Rattle.encode.proofs.encode_with as encode-with
 use Rattle.encode.proofs.home as home
 use Rattle.encode.proofs.home_with as home-with
 use Rattle.section.proofs.open as open-section
+use Rattle.section_convert.proofs.convert as convert
 use Rattle.line.proofs.line as line
 use Rattle.listing_text.proofs.listing as listing
 use Rattle.brassdozen.proofs.brassdozen_version as c-version
@@ -54,16 +61,22 @@ use Rattle.brassdozen.proofs.brassdozen_home as c-home
 use Rattle.brassdozen.proofs.brassdozen_home_zeros as c-home-zeros
 use Rattle.brassdozen.proofs.brassdozen_line as c-line
 use Rattle.brassdozen.proofs.brassdozen_listing as c-listing
+use Rattle.brassdozen.proofs.brassdozen_to_v1 as c-to-v1
+use Rattle.brassdozen.proofs.brassdozen_to_v2 as c-to-v2
 use Rattle.a32_elsewhere.proofs.Elsewhere as Elsewhere
 use Rattle.encode_home.proofs.Same as Same
 use Rattle.encode.proofs.Encodes as Encodes
-use Rattle.section.proofs.Accepted as Accepted
+use Rattle.section.proofs.Accepted as Sections
+use Rattle.section.proofs.Places as Places
+use Rattle.section_convert.proofs.Converts as Conversion
 use Rattle.manual_follows.proofs.Follows as Follows
 use Rattle.manual_drawn.proofs.Drawn as Drawn
 use Rattle.promises_differ.proofs.Alike as Differ
 use Rattle.promises_predicated.proofs.ReadOnce as ReadOnce
 use Rattle.line_spelling.proofs.Fits as Fits
 use Rattle.listing_text.proofs.Enough as Enough
+use Rattle.listing_text.proofs.Grow as Grow
+use Rattle.listing_text.proofs.Example as Listed
 use Rattle.brassdozen.proofs.Back as Back
 use Rattle.brassdozen.proofs.Exactly as Exactly
 use Rattle.promises.proofs.Refusals as Refusals
@@ -101,6 +114,12 @@ PutsRow d before r after =
     (Accepts d → Puts (λ n len. n) (rowOf (d .insn)) before r after)
     × ((Accepts d → ⊥) → (r ≡ d .refusal) × (after ≡ before))
 
+-- a converted section is written so; if it can't be converted the refusal's number is given, and every byte stays
+abbrev PutsSection : {A : Type 0} → (ℕ → ℕ → A) → Target → (section before : List ℕ) → A → (after : List ℕ) → Type 0
+PutsSection gives target section before r after =
+    (conversionRefusal target section ≡ 0 → Puts gives (convertedOf target section) before r after)
+    × ((conversionRefusal target section ≡ 0 → ⊥) → (r ≡ gives (conversionRefusal target section) 0) × (after ≡ before))
+
 -- The contracts as relations: of what a function is given, what it gives and, of a buffer that it is lent, what it leaves there. `Post` is the
 -- contract as the check reads it from the source. κ and κ′ are the lifetimes of what is lent, whatever they are.
 module _ (κ κ′ : Lft) where
@@ -131,6 +150,9 @@ module _ (κ κ′ : Lft) where
   abbrev WritesListing : (section out : Slice) → Written → (out′ : Slice) → Type 0
   WritesListing section out r out′ = listing.Reads.Post (κ, (κ′, tt)) (section, (out, tt)) r (section, (out′, tt))
 
+  abbrev Converts : (section : Slice) → Target → (out : Slice) → Written → (out′ : Slice) → Type 0
+  Converts section target out r out′ = convert.Reads.Post (κ, (κ′, tt)) (section, (target, (out, tt))) r (section, (target, (out′, tt)))
+
   -- and those for C and Rust
 
   abbrev DecodesToRow : (w addr : ℕ) (row : Slice) → ℕ → (row′ : Slice) → Type 0
@@ -154,6 +176,10 @@ module _ (κ κ′ : Lft) where
   abbrev WritesListingForC : (section out : Slice) → ℕ → (out′ : Slice) → Type 0
   WritesListingForC section out p out′ = c-listing.Reads.Post (κ, (κ′, tt)) (section, (out, tt)) p (section, (out′, tt))
 
+  abbrev ConvertsForC : Target → (section out : Slice) → ℕ → (out′ : Slice) → Type 0
+  ConvertsForC One section out p out′ = c-to-v1.Reads.Post (κ, (κ′, tt)) (section, (out, tt)) p (section, (out′, tt))
+  ConvertsForC Two section out p out′ = c-to-v2.Reads.Post (κ, (κ′, tt)) (section, (out, tt)) p (section, (out′, tt))
+
   -- 1. Taken without fault.
 
   -- Every function takes every input.
@@ -165,6 +191,7 @@ module _ (κ κ′ : Lft) where
       × Taken home.Statement.statement home.Reads.Asked
       × Taken home-with.Statement.statement home-with.Reads.Asked
       × Taken open-section.Statement.statement open-section.Reads.Asked
+      × Taken convert.Statement.statement convert.Reads.Asked
       × Taken line.Statement.statement line.Reads.Asked
       × Taken listing.Statement.statement listing.Reads.Asked
       × Taken c-version.Statement.statement c-version.Reads.Asked
@@ -176,6 +203,8 @@ module _ (κ κ′ : Lft) where
       × Taken c-home-zeros.Statement.statement c-home-zeros.Reads.Asked
       × Taken c-line.Statement.statement c-line.Reads.Asked
       × Taken c-listing.Statement.statement c-listing.Reads.Asked
+      × Taken c-to-v1.Statement.statement c-to-v1.Reads.Asked
+      × Taken c-to-v2.Statement.statement c-to-v2.Reads.Asked
   taken = (
     (λ M. decode.Met.met, λ κs a. tt),
     (λ M. decode-bytes.Met.met, λ κs a. tt),
@@ -184,6 +213,7 @@ module _ (κ κ′ : Lft) where
     (λ M. home.Met.met, λ κs a. tt),
     (λ M. home-with.Met.met, λ κs a. tt),
     (λ M. open-section.Met.met, λ κs a. tt),
+    (λ M. convert.Met.met, λ κs a. tt),
     (λ M. line.Met.met, λ κs a. tt),
     (λ M. listing.Met.met, λ κs a. tt),
     (λ M. c-version.Met.met, λ κs a. tt),
@@ -195,6 +225,8 @@ module _ (κ κ′ : Lft) where
     (λ M. c-home-zeros.Met.met, λ κs a. tt),
     (λ M. c-line.Met.met, λ κs a. tt),
     (λ M. c-listing.Met.met, λ κs a. tt),
+    (λ M. c-to-v1.Met.met, λ κs a. tt),
+    (λ M. c-to-v2.Met.met, λ κs a. tt),
   )
 
   -- Fewer than four bytes are refused with 1; of more, the first four are decoded, low byte first.
@@ -212,9 +244,13 @@ module _ (κ κ′ : Lft) where
   pub no-row : (w addr : ℕ) (d : Decoded) → Decodes w addr d → inRange w ≡ true → (Accepts d → ⊥) → d ≡ refused 3
   no-row w addr d is range bad = is ∙ Refusals.refused-within w addr range (λ ok. bad (rw is ok))
 
-  -- A section is refused with the number of the first of document 01's checks that fails.
+  -- A section is refused with the number of the first check that fails, in the order of documents 01 and 02, and accepted exactly if it is what they
+  -- describe.
   pub refused-section : (bytes : Slice) (o : Opened) → Opens bytes o → o .refusal ≡ refusalOf (now bytes)
-  refused-section bytes o is = rw is (Accepted.same-refusal (now bytes))
+  refused-section bytes o is = rw is (Sections.same-refusal (now bytes))
+
+  pub accepted-section : (bytes : Slice) (o : Opened) → Opens bytes o → (o .refusal ≡ 0) ↔ Accepted (now bytes)
+  accepted-section bytes o is = rw (refused-section bytes o is) (Sections.accepted-exactly (now bytes))
 
   -- A line and a listing are written, or refused with 10, and then no byte is changed.
   pub writes-line : (addr w : ℕ) (out out′ : Slice) (d : Decoded) (r : Written) → Decodes w addr d → WritesLine addr w out r out′
@@ -233,6 +269,16 @@ module _ (κ κ′ : Lft) where
   pub writes-listing-for-c : (section out out′ : Slice) (p : ℕ) → WritesListingForC section out p out′
       → Puts packed (listingOf (now section)) (now out) p (now out′)
   writes-listing-for-c section out out′ p wrote = rw (wrote .0, wrote .1) (Left.puts packed _ _)
+
+  -- A section is converted, or refused with its own number, with 12 or with 10, and then no byte is changed.
+  pub converts : (section : Slice) (target : Target) (out out′ : Slice) (r : Written) → Converts section target out r out′
+      → PutsSection given target (now section) (now out) r (now out′)
+  converts section target out out′ r wrote = rw (wrote .0, wrote .1) (Left.puts-section given target _ _)
+
+  pub converts-for-c : (target : Target) (section out out′ : Slice) (p : ℕ) → ConvertsForC target section out p out′
+      → PutsSection packed target (now section) (now out) p (now out′)
+  converts-for-c One section out out′ p wrote = rw (wrote .0, wrote .1) (Left.puts-section packed One _ _)
+  converts-for-c Two section out out′ p wrote = rw (wrote .0, wrote .1) (Left.puts-section packed Two _ _)
 
   -- So is the row of an accepted word; of a word that is refused its number is given, and no number of what is lent is changed.
   pub writes-row : (w addr : ℕ) (row row′ : Slice) (d : Decoded) (n : ℕ) → Decodes w addr d → DecodesToRow w addr row n row′
@@ -349,3 +395,65 @@ module _ (κ κ′ : Lft) where
       → p ≡ packed 0 (homeOf c w)
   row-back Manual w addr row row′ p bound is to = to ∙ rw (is .1) (Back.goes-home Manual w addr (now row) bound (sym (is .0)))
   row-back Zeros w addr row row′ p bound is to = to ∙ rw (is .1) (Back.goes-home Zeros w addr (now row) bound (sym (is .0)))
+
+  -- The counts of a listing's closing line add up to the section's words.
+  pub adds-up : (bytes : Slice) (o : Opened) → Opens bytes o
+      → total namedHere (placesOf (now bytes)) + total refusedHere (placesOf (now bytes)) + total dataHere (placesOf (now bytes)) ≡ o .count
+  adds-up bytes o is = rw is (Grow.adds-up (now bytes))
+
+  -- Of version 1 all is as it was: every place has a word, the words start at byte 9, and the closing line has three counts.
+  pub all-words : (s : List ℕ) → refusalOf s ≡ 0 → versionOf s ≡ 1
+      → placesOf s ≡ firsts (λ place. WordHere (wordAt s (9 + 4 * place)) (baseOf s + 4 * place)) (countOf s)
+  all-words s ok one = Places.all-words s ok one
+
+  pub first-closing : (count named refused pool : ℕ)
+      → closingOf 1 count named refused pool
+      ≡ decimalOf count ++ bytes " words " ++ decimalOf named ++ bytes " named " ++ decimalOf refused ++ bytes " refused\n"
+  first-closing count named refused pool = Listed.first-closing count named refused pool
+
+  -- A data word's line has its address, the word and `data`, whatever instruction the word would be.
+  pub data-line : (w addr : ℕ) → lineHere (Data w addr) ≡ hexOf 8 addr ++ bytes " " ++ hexOf 8 w ++ bytes " data\n"
+  data-line w addr = unfold dataLine in refl
+
+  -- To its own version a section is converted as it stands.
+  pub copies : (section : Slice) (target : Target) → versionOf (now section) ≡ numberOf target → convertedOf target (now section) ≡ now section
+  copies section target own = Conversion.copies target (now section) own
+
+  -- One with ranges does not go back to version 1; all others that are accepted are converted.
+  pub back-refused : (s : List ℕ) → refusalOf s ≡ 0 → (rangeCount s ≡ 0 → ⊥) → conversionRefusal One s ≡ 12
+  back-refused s ok some = Conversion.with-ranges s ok some
+
+  pub back-accepted : (s : List ℕ) → refusalOf s ≡ 0 → rangeCount s ≡ 0 → conversionRefusal One s ≡ 0
+  back-accepted s ok none = Conversion.back-possible s ok none
+
+  -- A converted section is accepted, in the version that was asked for, with the base and at each place what the section had.
+  pub converted : (section out out′ lent : Slice) (target : Target) (r : Written) → Converts section target out r out′ → r .refusal ≡ 0
+      → now lent ≡ take (r .len) (now out′)
+      → (refusalOf (now lent) ≡ 0)
+      × (versionOf (now lent) ≡ numberOf target)
+      × (baseOf (now lent) ≡ baseOf (now section))
+      × (placesOf (now lent) ≡ placesOf (now section))
+  converted section out out′ lent target r wrote ok is =
+      let done = Left.is-converted target (now section) (now out) (rw (wrote .0) at ok) in
+      rw (is, wrote .0, wrote .1, done .1) (
+        Conversion.converted-accepted target (now section) (done .0),
+        Conversion.converted-version target (now section) (done .0),
+        Conversion.same-base target (now section) (done .0),
+        Conversion.same-places target (now section) (done .0),
+      )
+
+  -- There and back gives the same bytes, and the way back is refused only for want of room.
+  pub leads-back : (section out out′ lent : Slice) (target : Target) (r : Written) → Converts section target out r out′ → r .refusal ≡ 0
+      → now lent ≡ take (r .len) (now out′) → conversionRefusal (ownOf (now section)) (now lent) ≡ 0
+  leads-back section out out′ lent target r wrote ok is =
+      let done = Left.is-converted target (now section) (now out) (rw (wrote .0) at ok) in
+      rw (is, wrote .0, wrote .1, done .1) (Conversion.back-accepted target (now section) (done .0))
+
+  pub there-and-back : (section out out′ lent out₂ out₂′ : Slice) (target : Target) (r r₂ : Written)
+      → Converts section target out r out′ → r .refusal ≡ 0 → now lent ≡ take (r .len) (now out′)
+      → Converts lent (ownOf (now section)) out₂ r₂ out₂′ → r₂ .refusal ≡ 0
+      → take (r₂ .len) (now out₂′) ≡ now section
+  there-and-back section out out′ lent out₂ out₂′ target r r₂ wrote ok is wrote₂ ok₂ =
+      let there = Left.is-converted target (now section) (now out) (rw (wrote .0) at ok) in
+      let back = Left.is-converted (ownOf (now section)) (now lent) (now out₂) (rw (wrote₂ .0) at ok₂) in
+      rw (wrote₂ .0, wrote₂ .1, back .1, is, wrote .0, wrote .1, there .1) (Conversion.back target (now section) (there .0))

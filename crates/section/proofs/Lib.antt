@@ -1,4 +1,7 @@
 -- Facts of the crate that belong to no one function.
+pub mod Firsts
+pub mod Ruled
+pub mod Checks
 pub mod Accepted
 pub mod Places
 pub mod Fold

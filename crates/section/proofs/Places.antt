@@ -1,44 +1,42 @@
 -- What stands at the places of a section. Assumes nothing.
-use mathlib.Core.Path.{_≡_, refl, ap, sym, subst, _∙_}
-use mathlib.Core.List.{List, [], _∷_}
-use Prim.Native.Nat.{ℕ, zero, suc, _<_, _≤_}
-use native.Mathlib.Numerals.{add-one}
+use mathlib.Core.Path.{_≡_, refl, sym, subst, _∙_}
+use mathlib.Core.Bool.{true, false, true≢false}
+use mathlib.Core.List.{List}
+use Prim.Native.Nat.{ℕ, _+_, _*_, _<_, _≤_}
 use native.Mathlib.Omega.{arith}
-use borrow.Author.Tests.{ltb-true, ltb-false}
+use borrow.Author.Tests.{ltb-true, ltb-false, ne-eqb}
 use lib.Dec.{ltb}
-use lib.ListN.{length, getD, length-append, List·getD-append, List·getD-eq-default}
-use lib.Seq.{getD-at}
-use Rattle.word.specs.Choice.{by-test}
-use Rattle.section.specs.Section.{openedOf, wordHere, firstPlaces, placesOf, hereOf}
+use lib.ListN.{length, List·getD-eq-default}
+use Rattle.word.specs.Bytes.{wordAt}
+use Rattle.word.specs.Choice.{tested, by-test}
+use Rattle.section.specs.Ranges.{isData}
+use Rattle.section.specs.Section.{versionOf, baseOf, firsts, rangesOf, countOf, refusalOf, openedOf, hereAt, isEnd, placesOf, hereOf}
 use Rattle.section.specs.declared.Here.{Here}
-use Rattle.section.specs.declared.Here.the-variants.{Word, End}
+use Rattle.section.specs.declared.Here.the-variants.{Word, Data, End}
+use Rattle.section.specs.declared.Opened.{Opened}
+use Rattle.section.proofs.Firsts.{so-many, each}
+use Rattle.section.proofs.Accepted.{opens}
 
 -- something stands there
 abbrev pub Stands : Here → Type 0
-Stands (Word word address) = Unit {0}
-Stands End = ⊥
+Stands here = isEnd here ≡ false
 
-module _ (at : ℕ → Here) where
-  so-many : (n : ℕ) → length (firstPlaces at n) ≡ n
-  so-many zero = refl
-  so-many (suc n) = rw (length-append (firstPlaces at n) (at n ∷ []), so-many n) (add-one n)
+pub something : (s : List ℕ) (o : Opened) (place : ℕ) → Stands (hereAt s o place)
+something s o place = tested Stands (isData (rangesOf s (o .ranges)) place) (λ e. refl) (λ e. refl)
 
-  each : (n i : ℕ) → i < n → getD (firstPlaces at n) i End ≡ at i
-  each zero i h = absurd (let z : ⊥ = omega arith in z)
-  each (suc n) i h =
-      by-test (ltb i n)
-      (λ e. List·getD-append (firstPlaces at n) (at n ∷ []) End i (omega (arith, so-many n, ltb-true i n e)) ∙ each n i (ltb-true i n e))
-      (λ e.
-      let last : n ≡ i = omega (arith, ltb-false i n e) in
-      getD-at (firstPlaces at n) (at n) [] End i (so-many n ∙ last) ∙ ap at last)
+-- nothing does
+pub nothing : (here : Here) → isEnd here ≡ true → here ≡ End
+nothing (Word word address) e = absurd (true≢false (sym e))
+nothing (Data word address) e = absurd (true≢false (sym e))
+nothing End e = refl
 
 module _ (s : List ℕ) where
   pub how-many : length (placesOf s) ≡ openedOf s .count
-  how-many = unfold placesOf in so-many (wordHere s (openedOf s)) (openedOf s .count)
+  how-many = unfold placesOf in so-many (hereAt s (openedOf s)) (openedOf s .count)
 
   module _ {place : ℕ} where
-    pub before-end : place < length (placesOf s) → hereOf s place ≡ wordHere s (openedOf s) place
-    before-end h = unfold placesOf in each (wordHere s (openedOf s)) (openedOf s .count) place (omega (arith, how-many))
+    pub before-end : place < length (placesOf s) → hereOf s place ≡ hereAt s (openedOf s) place
+    before-end h = unfold placesOf in each (hereAt s (openedOf s)) End (openedOf s .count) place (omega (arith, how-many))
 
     pub at-end : length (placesOf s) ≤ place → hereOf s place ≡ End
     at-end h = List·getD-eq-default (placesOf s) End h
@@ -48,10 +46,17 @@ module _ (s : List ℕ) where
     is-before found some =
         by-test (ltb place (length (placesOf s)))
         (λ e. ltb-true place (length (placesOf s)) e)
-        (λ e. absurd (subst Stands (sym found ∙ at-end (ltb-false place (length (placesOf s)) e)) some))
+        (λ e. absurd (true≢false (subst Stands (sym found ∙ at-end (ltb-false place (length (placesOf s)) e)) some)))
 
     pub is-end : hereOf s place ≡ End → length (placesOf s) ≤ place
     is-end found =
         by-test (ltb place (length (placesOf s)))
-        (λ e. absurd (subst Stands (sym (before-end (ltb-true place (length (placesOf s)) e)) ∙ found) tt))
+        (λ e.
+        absurd (true≢false (subst Stands (sym (before-end (ltb-true place (length (placesOf s)) e)) ∙ found) (something s (openedOf s) place))))
         (λ e. ltb-false place (length (placesOf s)) e)
+
+-- version 1 is the case without ranges: all are words, and they start at byte 9
+pub all-words : (s : List ℕ) → refusalOf s ≡ 0 → versionOf s ≡ 1
+    → placesOf s ≡ firsts (λ place. Word (wordAt s (9 + 4 * place)) (baseOf s + 4 * place)) (countOf s)
+all-words s ok one = unfold placesOf in
+    rw (opens s ok) (simp (ne-eqb (versionOf s) 2 (λ two. let z : ⊥ = omega (arith, one, two) in z)))

@@ -12,11 +12,15 @@ use prog.Memory.{Memory}
 use prog.Routine.{Routine}
 use prog.Wp.{Heap}
 use Rattle.section.proofs.open.Reads as opening
+use Rattle.section.proofs.is_end.Reads as is-end
 use Rattle.section.proofs.next as next
 use Rattle.section.proofs.read as read
 
 pub open-only : (κs : _) (a : _) (r r′ : _) (s s′ : _) → opening.Post κs a r s → opening.Post κs a r′ s′ → r ≡ r′
 open-only κs a r r′ s s′ p q = p ∙ sym q
+
+pub is-end-only : (κs : _) (a : _) (r r′ : _) (s s′ : _) → is-end.Post κs a r s → is-end.Post κs a r′ s′ → r ≡ r′
+is-end-only κs a r r′ s s′ p q = p ∙ sym q
 
 -- The contracts over a reader are read by no `Post`: of them it is said in the logic, for each of its models, that the
 -- clauses of two results give their equality.

@@ -1,4 +1,4 @@
--- 01, "Refusal numbers": what each is given for; 0 is none.
+-- 01, "Refusal numbers", and 02: what each is given for; 0 is none.
 use Prim.Native.Nat.{ℕ}
 
 -- "decoding bytes, fewer than 4"
@@ -21,11 +21,11 @@ NO_WORD = 4
 abbrev pub BAD_MARK : ℕ
 BAD_MARK = 5
 
--- "section version not 1"
+-- "6 now means neither 1 nor 2"
 abbrev pub BAD_VERSION : ℕ
 BAD_VERSION = 6
 
--- "section shorter than 9 bytes, or its words not a multiple of 4 bytes"
+-- "section shorter than 9 bytes, or its words not a multiple of 4 bytes"; "also when the count or a range is cut short"
 abbrev pub BAD_LENGTH : ℕ
 BAD_LENGTH = 7
 
@@ -37,6 +37,14 @@ TOO_MANY_WORDS = 8
 abbrev pub BAD_BASE : ℕ
 BAD_BASE = 9
 
--- "line longer than the lent buffer"
+-- "line longer than the lent buffer"; "when the converted section doesn't fit the lent buffer"
 abbrev pub NO_ROOM : ℕ
 NO_ROOM = 10
+
+-- "when the range list breaks a rule above"
+abbrev pub BAD_RANGES : ℕ
+BAD_RANGES = 11
+
+-- "converting back with ranges"
+abbrev pub HAS_RANGES : ℕ
+HAS_RANGES = 12

@@ -15,10 +15,10 @@ pub const NO_WORD: u8 = 4;
 /// Section mark not `RSX`.
 pub const BAD_MARK: u8 = 5;
 
-/// Section version not 1.
+/// Section version neither 1 nor 2.
 pub const BAD_VERSION: u8 = 6;
 
-/// Section shorter than 9 bytes, or its words not a multiple of 4 bytes.
+/// Section shorter than 9 bytes, the count of its ranges or a range cut short, or its words not a multiple of 4 bytes.
 pub const BAD_LENGTH: u8 = 7;
 
 /// More than 4,096 words.
@@ -27,5 +27,11 @@ pub const TOO_MANY_WORDS: u8 = 8;
 /// Base not a multiple of 4, or base + 4 x words above 2^32.
 pub const BAD_BASE: u8 = 9;
 
-/// Line longer than the lent buffer.
+/// Line or converted section longer than the lent buffer.
 pub const NO_ROOM: u8 = 10;
+
+/// Range list that breaks a rule.
+pub const BAD_RANGES: u8 = 11;
+
+/// Converting back, with ranges.
+pub const HAS_RANGES: u8 = 12;

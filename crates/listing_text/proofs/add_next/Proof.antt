@@ -1,4 +1,4 @@
--- `listed::add_next` meets its contract. Assumes nothing.
+-- `listing_text::add_next` meets its contract. Assumes nothing.
 use native.Mathlib.Omega.{arith}
 use Rattle.line_spelling.proofs.Fits.{line-fits}
 use borrow.Author.Needs.{needs}

@@ -1,14 +1,8 @@
--- `listed::put_listed` meets its contract. Assumes nothing.
-use mathlib.Core.Path.{ap}
-use Prim.Native.Nat.{ℕ}
+-- `listing_text::put_listed` meets its contract. Assumes nothing.
 use native.Mathlib.Omega.{arith}
-use lib.ListN.{length}
-use Rattle.text.proofs.Writing.{_then_}
-use Rattle.section.specs.declared.Opened.{Opened}
-use Rattle.listing_text.specs.Listing.{closingOf}
-use Rattle.listing_text.proofs.Grow.{count-named}
-use Rattle.listing_text.proofs.Laid.{laid, sizes}
 use borrow.Author.Needs.{needs}
+use Rattle.text.proofs.Writing.{_then_}
+use Rattle.listing_text.proofs.Laid.{laid, counted, sizes}
 use Rattle.listing_text.proofs.put_listed as f
 
 put-header-requires : f.Tie.Need-put-header-requires
@@ -28,11 +22,10 @@ put-closing-requires c κs =
     let header = c .before .before .before .before .before .before .before .put-header in
     let lines = c .before .before .before .put-lines in
     let section = start .args .section .now in
-    let named = lines .ensures .1 in (
-      omega (arith, named, count-named section, ap (λ (o : Opened). o .count) (start .pre .0)),
+    rw (lines .ensures .1 .0, lines .ensures .1 .1) (
+      counted section (start .pre .0),
       omega (
         arith,
-        ap (λ (n : ℕ). length (closingOf (start .args .opened .count) n)) named,
         start .pre .1,
         sizes section (start .pre .0),
         header .ensures .ends,
@@ -44,10 +37,12 @@ put-closing-requires c κs =
 
 returns : f.Tie.Need-returns
 returns c =
-    let start = c .before .before .before .before .before .before .before .before .before .before .before .before .before .before in
-    let lines = c .before .before .before .before .before .before .put-lines in
-    rw (laid (start .args .section .now) (start .pre .0), ← (lines .ensures .1))
-    (c .before .before .before .before .before .before .before .before .before .before .put-header .ensures then lines .ensures .0 then c .before .before .put-closing .ensures)
+    let closing = c .before .before in
+    let lines = closing .before .before .before .before in
+    let header = lines .before .before .before .before in
+    let start = header .before .before .before .before in
+    rw (laid (start .args .section .now) (start .pre .0), ← (lines .put-lines .ensures .1 .0), ← (lines .put-lines .ensures .1 .1))
+    (header .put-header .ensures then lines .put-lines .ensures .0 then closing .put-closing .ensures)
 
 pub put-listed-spec : {M : Type 1} → f.Statement.statement M
 put-listed-spec = f.Tie.close (f.Tie.spec put-header-requires put-lines-requires put-closing-requires (λ c. search needs) returns)

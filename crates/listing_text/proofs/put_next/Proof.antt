@@ -1,4 +1,4 @@
--- `listed::put_next` meets its contract. Assumes nothing.
+-- `listing_text::put_next` meets its contract. Assumes nothing.
 use mathlib.Core.Path.{ap, _∙_}
 use Prim.Native.Nat.{ℕ, _+_}
 use native.Mathlib.Omega.{arith}
@@ -27,7 +27,10 @@ returns c =
     let start = c .before .before .before .before .before .before .before .before in
     let decoded = c .before .before .before .before .before .before .decode .ensures in (
       rw decoded at (c .before .before .before .before .put-answered .ensures),
-      ap (λ (n : ℕ). start .args .lines .named + n) (c .before .one-named .ensures ∙ ap (λ (d : Decoded). pick (eqb (d .refusal) 0) 1 0) decoded),
+      (
+        ap (λ (n : ℕ). start .args .lines .named + n) (c .before .one-named .ensures ∙ ap (λ (d : Decoded). pick (eqb (d .refusal) 0) 1 0) decoded),
+        omega arith,
+      ),
     )
 
 pub put-next-spec : {M : Type 1} → f.Statement.statement M
