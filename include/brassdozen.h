@@ -1,8 +1,8 @@
-/* Brassdozen for C: a decoder, an encoder and a lister of A32, each function proved to meet the contract that stands here in words.
-   docs/LIBRARY.md says how to build the library, and where its proof ends.
+/* Brassdozen for C: a decoder, an encoder and a lister of A32, and a walk through it, each function proved to meet the contract that stands
+   here in words. docs/LIBRARY.md says how to build the library, and where its proof ends.
 
-   Every function returns, for every word, address and content of what it is lent, and does nothing but write to its `out` or `row`. It keeps
-   nothing, takes nothing but a little stack and may be called by several threads at once.
+   Every function returns, for every word, address and content of what it is lent, and does nothing but write to its `out`, `row` or `records`.
+   It keeps nothing, takes nothing but a little stack and may be called by several threads at once.
 
    What the caller owes: a pointer is aligned for its type and not null, even where its length is 0; so many elements behind it are readable,
    and behind a pointer that is not const writable; and nothing else touches those, the other argument of the same call neither, until the
@@ -19,7 +19,7 @@ extern "C" {
 
 /* The version of this header: 10,000 for each major one, 100 for each minor one, and one for each patch. The major one changes where what is
    here changes, a row or a function, and the minor one where something is added. */
-enum { BRASSDOZEN_VERSION = 20100 };
+enum { BRASSDOZEN_VERSION = 20200 };
 
 /* The version of the library that is linked. */
 uint32_t brassdozen_version(void);
@@ -37,7 +37,8 @@ enum {
     BRASSDOZEN_BAD_BASE = 9,       /* a section: its base is no multiple of 4, or its words go beyond the last address */
     BRASSDOZEN_NO_ROOM = 10,       /* writing: longer than what is lent */
     BRASSDOZEN_BAD_RANGES = 11,    /* a section: more than 64 ranges, or one that is empty, not in the section, or not after the one before it */
-    BRASSDOZEN_HAS_RANGES = 12     /* converting to version 1: a section with ranges */
+    BRASSDOZEN_HAS_RANGES = 12,    /* converting to version 1: a section with ranges */
+    BRASSDOZEN_NO_PLACE = 13       /* walking: the entry is no place of the section */
 };
 
 /* Where a function gives a number of 64 bits, the refusal stands above 32 bits of result, which are 0 beside a refusal. */
@@ -48,7 +49,8 @@ enum {
     BRASSDOZEN_ROW = 49,         /* the numbers of a row */
     BRASSDOZEN_LINE = 96,        /* no line has more bytes */
     BRASSDOZEN_LISTING = 393280, /* no listing has more bytes */
-    BRASSDOZEN_SECTION = 16907   /* no section that is accepted has more bytes */
+    BRASSDOZEN_SECTION = 16907,  /* no section that is accepted has more bytes */
+    BRASSDOZEN_REPORT = 49152    /* no report of a walk has more numbers */
 };
 
 /* A row: an instruction value as numbers.
@@ -118,6 +120,33 @@ uint64_t brassdozen_to_v1(const uint8_t *section, size_t bytes, uint8_t *out, si
 /* The same for version 2: one of version 2 as it is, one of version 1 with a count of no ranges, which brassdozen_to_v1 makes the same bytes
    of again. No section is refused with 12. */
 uint64_t brassdozen_to_v2(const uint8_t *section, size_t bytes, uint8_t *out, size_t length);
+
+/* A record of a walk: three numbers, a place, a kind and a value. A place is the number of a word in its section, from 0. */
+enum {
+    BRASSDOZEN_REACHED = 0, /* the walk comes to the place; the value is the word there */
+    BRASSDOZEN_OUT = 1,     /* a jump or a call to an address that is not in the section; the value is that address */
+    BRASSDOZEN_THUMB = 2,   /* a blx to an address, in the section or not, where Thumb is entered; the value is that address */
+    BRASSDOZEN_UNKNOWN = 3, /* a jump or a call through a register or from memory, under a condition too, but no return; the value is 0 */
+    BRASSDOZEN_END = 4,     /* going on from the last word; the value is 0 */
+    BRASSDOZEN_STOPPED = 5  /* no instruction: the value is the number that the word is refused with, 2 or 3, or 0 of data */
+};
+
+/* Walks through a section from the place `entry`, and writes the report to the start of `records`: a record of each word that is reached, and
+   of each way out at it, in order of place and then of kind. A word is reached if it is the entry or a step leads to it from one that is. A
+   word whose flow is next leads to the word after it; a jump to its target; a jump under a condition and a call to both; a call through a
+   register, and a blx to an address, to the word after it; a return, a trap and a jump through a register to none, or under a condition below
+   14 to the word after it; a word that is refused, and data, to none. No step leads out of the section: from the last word, at the last
+   address too, none goes on to address 0. An address is in the section if it is in one of its words. A blx to an address that is not has two
+   records for it, BRASSDOZEN_OUT and BRASSDOZEN_THUMB.
+
+   The low 16 bits of the result are the number of records, at most four for each word reached; those above are the number of words reached. A
+   section that is not accepted is refused with 5, 6, 7, 8, 9 or 11, as its listing says; else an entry that is no place of it with 13; and
+   else, with 10, exactly if the report has more numbers than `length`, three for each record. A refusal changes no number of `records`, and
+   nothing changes one after the report. A call takes about 12 KB of stack. */
+uint64_t brassdozen_walk(const uint8_t *section, size_t bytes, uint32_t entry, uint32_t *records, size_t length);
+
+static inline uint32_t brassdozen_walk_records(uint64_t given) { return (uint32_t)(given & 0xffff); }
+static inline uint32_t brassdozen_walk_words(uint64_t given) { return (uint32_t)given >> 16; }
 
 #ifdef __cplusplus
 }

@@ -246,6 +246,104 @@ static void check_conversion(const uint8_t *words, size_t count)
     one[2] = 'X';
 }
 
+/* A section of version 2 at 8000, with each kind of record: 0 beq to 3, 1 bl out, 2 b to 6, 3 blx r3, 4 blx to the middle of 0, 5 bxne lr,
+   6 bne to 8, 7 a supervisor call, 8 beq to 10, 9 data, 10 a word that goes on, 11 blx out. */
+enum { WALKED = 12, WALKED_BYTES = 19 + 4 * WALKED };
+static const uint32_t walked[WALKED] = {0x0a000001, 0xeb03e00d, 0xea000002, 0xe12fff33, 0xfbfffffa, 0x112fff1e,
+                                        0x1a000000, 0xef000000, 0x0a000000, 0xe1a00000, 0xe1a00000, 0xfa000000};
+
+/* A walk with each room: the report is written whole, or not at all. */
+static void check_report(const uint8_t *section, uint32_t entry, const uint32_t (*expected)[3], size_t count, uint32_t words)
+{
+    uint32_t records[3 * 32];
+    const size_t whole = 3 * count, room = sizeof records / sizeof *records;
+    CHECK(whole + 3 <= room);
+    for (size_t length = 0; length <= room; length++) {
+        memset(records, UNTOUCHED, sizeof records);
+        uint64_t given = brassdozen_walk(section, WALKED_BYTES, entry, records, length);
+        if (length < whole) {
+            CHECK(brassdozen_refusal(given) == BRASSDOZEN_NO_ROOM && brassdozen_result(given) == 0);
+            CHECK(untouched(records, records + room));
+        } else {
+            CHECK(brassdozen_refusal(given) == 0);
+            CHECK(brassdozen_walk_records(given) == count && brassdozen_walk_words(given) == words);
+            CHECK(memcmp(records, expected, 4 * whole) == 0);
+            CHECK(untouched(records + whole, records + room));
+        }
+    }
+}
+
+/* A walk that is refused, whatever the room. */
+static void check_no_walk(const uint8_t *section, size_t bytes, uint32_t entry, unsigned refusal)
+{
+    static uint32_t records[BRASSDOZEN_REPORT];
+    const size_t room = sizeof records / sizeof *records, lengths[] = {0, 2, 3, room};
+    memset(records, UNTOUCHED, sizeof records);
+    for (size_t n = 0; n < sizeof lengths / sizeof *lengths; n++) {
+        uint64_t given = brassdozen_walk(section, bytes, entry, records, lengths[n]);
+        CHECK(brassdozen_refusal(given) == refusal && brassdozen_result(given) == 0);
+        CHECK(untouched(records, records + room));
+    }
+}
+
+static void check_walk(void)
+{
+    static const uint32_t from_0[][3] = {
+        {0, BRASSDOZEN_REACHED, 0x0a000001},
+        {1, BRASSDOZEN_REACHED, 0xeb03e00d},
+        {1, BRASSDOZEN_OUT, 0x00100040},
+        {2, BRASSDOZEN_REACHED, 0xea000002},
+        {3, BRASSDOZEN_REACHED, 0xe12fff33},
+        {3, BRASSDOZEN_UNKNOWN, 0},
+        {4, BRASSDOZEN_REACHED, 0xfbfffffa},
+        {4, BRASSDOZEN_THUMB, 0x00008002},
+        {5, BRASSDOZEN_REACHED, 0x112fff1e},
+        {6, BRASSDOZEN_REACHED, 0x1a000000},
+        {7, BRASSDOZEN_REACHED, 0xef000000},
+        {7, BRASSDOZEN_STOPPED, BRASSDOZEN_COPROCESSOR},
+        {8, BRASSDOZEN_REACHED, 0x0a000000},
+        {9, BRASSDOZEN_REACHED, 0xe1a00000},
+        {9, BRASSDOZEN_STOPPED, 0},
+        {10, BRASSDOZEN_REACHED, 0xe1a00000},
+        {11, BRASSDOZEN_REACHED, 0xfa000000},
+        {11, BRASSDOZEN_OUT, 0x00008034},
+        {11, BRASSDOZEN_THUMB, 0x00008034},
+        {11, BRASSDOZEN_END, 0},
+    };
+    /* From 2 all but 0, 1 and what stands between 2 and its target. */
+    enum { ALL = sizeof from_0 / sizeof *from_0, FROM_2 = ALL - 8 };
+    uint32_t from_2[FROM_2][3];
+    memcpy(from_2, from_0 + 3, sizeof *from_0);
+    memcpy(from_2 + 1, from_0 + 9, (ALL - 9) * sizeof *from_0);
+
+    uint8_t section[WALKED_BYTES + 4] = {'R', 'S', 'X', 2, 0, 0, 0x80, 0, 0, 1, 0, 9, 0, 0, 0, 1, 0, 0, 0};
+    for (size_t place = 0; place < WALKED; place++)
+        for (size_t byte = 0; byte < 4; byte++)
+            section[19 + 4 * place + byte] = (uint8_t)(walked[place] >> 8 * byte);
+    check_report(section, 0, from_0, ALL, WALKED);
+    check_report(section, 2, (const uint32_t (*)[3])from_2, FROM_2, 7);
+    check_report(section, 9, from_0 + 13, 2, 1);
+    check_report(section, 11, from_0 + 16, 4, 1);
+
+    check_no_walk(section, WALKED_BYTES, WALKED, BRASSDOZEN_NO_PLACE);
+    check_no_walk(section, WALKED_BYTES, 0x8000, BRASSDOZEN_NO_PLACE);
+    check_no_walk(section, WALKED_BYTES, UINT32_MAX, BRASSDOZEN_NO_PLACE);
+    check_no_walk(section, 8, 0, BRASSDOZEN_BAD_LENGTH);
+    check_no_walk(section, WALKED_BYTES - 1, WALKED, BRASSDOZEN_BAD_LENGTH);
+    section[15] = 0;
+    check_no_walk(section, WALKED_BYTES, 0, BRASSDOZEN_BAD_RANGES);
+    section[15] = 1;
+    section[5] = 1;
+    check_no_walk(section, WALKED_BYTES, WALKED, BRASSDOZEN_BAD_BASE);
+    section[3] = 3;
+    check_no_walk(section, WALKED_BYTES, 0, BRASSDOZEN_BAD_VERSION);
+    section[0] = 'r';
+    check_no_walk(section, WALKED_BYTES, 0, BRASSDOZEN_BAD_MARK);
+    static const uint8_t none[9] = "RSX\1", many[9 + 4 * 4097] = "RSX\1";
+    check_no_walk(none, sizeof none, 0, BRASSDOZEN_NO_PLACE);
+    check_no_walk(many, sizeof many, 0, BRASSDOZEN_TOO_MANY_WORDS);
+}
+
 int main(void)
 {
     static uint8_t words[4 * 4096];
@@ -273,6 +371,7 @@ int main(void)
     check_conversion(words, count);
     static const uint8_t many[9 + 4 * 4097] = "RSX\1";
     check_refused(brassdozen_to_v2, many, sizeof many, BRASSDOZEN_TOO_MANY_WORDS);
+    check_walk();
     CHECK(brassdozen_version() == BRASSDOZEN_VERSION);
     uint64_t nothing = 0;
     CHECK(brassdozen_refusal(brassdozen_encode(&nothing, 0)) == BRASSDOZEN_NO_WORD);

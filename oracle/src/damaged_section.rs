@@ -289,13 +289,18 @@ fn damaged(version: u16, kinds: &[Kind], random: &mut Random) -> Vec<u8> {
     bytes
 }
 
+/// One of the stored sections, as it stands.
+pub fn stored(random: &mut Random) -> Section {
+    Section::read(random.pick(&STORED)).expect("a stored section is accepted")
+}
+
 /// A section that is accepted, a quarter of them of stored code.
-fn good(version: u16, random: &mut Random) -> Section {
+pub fn good(version: u16, random: &mut Random) -> Section {
     if !random.one_in(4) {
         let words = word_count(random);
         return made_up(version, words, random);
     }
-    let stored = Section::read(random.pick(&STORED)).expect("a stored section is accepted");
+    let stored = stored(random);
     // Half of those with ranges keep them.
     let keeps = version == 2 && !stored.ranges.is_empty() && random.coin();
     let ranges = if keeps {
@@ -321,12 +326,12 @@ fn made_up(version: u16, words: usize, random: &mut Random) -> Section {
 }
 
 /// One that fits any number of words.
-fn base(random: &mut Random) -> u32 {
+pub fn base(random: &mut Random) -> u32 {
     random.below(0xffff_c000) as u32 & !3
 }
 
 /// Mostly few words, sometimes many.
-fn word_count(random: &mut Random) -> usize {
+pub fn word_count(random: &mut Random) -> usize {
     match random.below(40) {
         0 => random.place_below(MOST_WORDS + 1),
         1..10 => random.place_below(200),
@@ -335,7 +340,7 @@ fn word_count(random: &mut Random) -> usize {
 }
 
 /// Mostly few ranges, sometimes many; of version 1, none.
-fn ranges(version: u16, words: usize, random: &mut Random) -> Vec<Range> {
+pub fn ranges(version: u16, words: usize, random: &mut Random) -> Vec<Range> {
     let most = random.pick(&[0, 4, 4, 4, 4, 4, 4, MOST_RANGES]);
     let count = random.place_below(most.min(words) + 1);
     if version == 1 {

@@ -28,6 +28,9 @@ mod section;
 mod sweep;
 mod trip;
 mod values;
+mod walk;
+mod walked_section;
+mod walks;
 mod words;
 
 // The Rust's files, with the shims among them: they have more than the oracle calls.
@@ -49,7 +52,7 @@ use proved::{PROVED, Proved};
 use words::hex;
 
 const USAGE: &str = "\
-modes of the oracle (numbers are hexadecimal, but COUNT and SEED; no SET is every word):
+modes of the oracle (numbers are hexadecimal, but COUNT, SEED and ENTRY; no SET is every word):
   lines                reads lines of address, tab, word; adds the line of the listing to each
   answers              reads the same; prints what the program `answers` prints of each
   listings FILE ..     prints what the program `listings` prints of the sections in the files
@@ -60,6 +63,8 @@ modes of the oracle (numbers are hexadecimal, but COUNT and SEED; no SET is ever
   values COUNT SEED    has the proved code encode the rows of made-up values, and damaged rows
   load COUNT SEED      has the proved code list and convert made-up and damaged sections
   load COUNT SEED PROGRAM ..  runs the program on each instead
+  walk FILE ENTRY ..   prints the report of a walk through a section from each place
+  walks COUNT SEED     has the proved code walk through made-up and stored sections
   SET                  FIRST COUNT, or 'branches'";
 
 fn main() -> ExitCode {
@@ -111,6 +116,12 @@ fn run(arguments: &[&str]) -> Result<ExitCode, String> {
             println!("{tally}\n{failures} failures");
             return Ok(success_if(failures == 0));
         }
+        ["walk", file, entries @ ..] => each_walk(file, entries)?,
+        ["walks", count, seed] => {
+            let (tally, failures) = walks::walks(proved()?, decimal(count)?, decimal(seed)?);
+            println!("{tally}\n{failures} failures");
+            return Ok(success_if(failures == 0));
+        }
         _ => return Err(USAGE.to_string()),
     }
     Ok(ExitCode::SUCCESS)
@@ -140,6 +151,25 @@ fn each_file(files: &[&str]) -> Result<(), String> {
     for file in files {
         let input = fs::read(file).map_err(|why| format!("{file}: {why}"))?;
         print!("{file}:\n{}", section::program_listing(&mut oracle, &input));
+    }
+    Ok(())
+}
+
+/// Prints the report of a walk from each entry, a record a line, after the entry.
+fn each_walk(file: &str, entries: &[&str]) -> Result<(), String> {
+    let mut oracle = Oracle::new();
+    let section = fs::read(file).map_err(|why| format!("{file}: {why}"))?;
+    for entry in entries {
+        let place = decimal(entry)?.try_into();
+        let place = place.map_err(|_| format!("'{entry}' has more than 32 bits"))?;
+        println!("from {entry}:");
+        match walk::walk(&mut oracle, &section, place) {
+            Ok(walk) => {
+                walk.records.iter().for_each(|record| println!("{record}"));
+                println!("{} words {} records", walk.words, walk.records.len());
+            }
+            Err(refusal) => println!("refused {refusal}"),
+        }
     }
     Ok(())
 }

@@ -26,6 +26,9 @@ pub struct Proved {
     /// Writes a section as one of version 1, or of 2, to the start of `out`. Gives the same.
     pub to_v1: fn(section: &[u8], out: &mut [u8]) -> u64,
     pub to_v2: fn(section: &[u8], out: &mut [u8]) -> u64,
+    /// Writes the report of a walk from a place to the start of `records`. Gives what `Coded::of`
+    /// reads, with the number of records in the word's lower half and of words reached in its upper.
+    pub walk: fn(section: &[u8], entry: u32, records: &mut [u32]) -> u64,
 }
 
 /// What encoding gives: a word beside no refusal, or a refusal's number beside word 0.
@@ -77,6 +80,7 @@ pub const PROVED: Option<Proved> = Some(Proved {
     listing: linked::listing,
     to_v1: linked::to_v1,
     to_v2: linked::to_v2,
+    walk: linked::walk,
 });
 
 #[cfg(not(proved))]
@@ -96,6 +100,13 @@ mod linked {
         fn brassdozen_listing(section: *const u8, bytes: usize, out: *mut u8, room: usize) -> u64;
         fn brassdozen_to_v1(section: *const u8, bytes: usize, out: *mut u8, room: usize) -> u64;
         fn brassdozen_to_v2(section: *const u8, bytes: usize, out: *mut u8, room: usize) -> u64;
+        fn brassdozen_walk(
+            section: *const u8,
+            bytes: usize,
+            entry: u32,
+            records: *mut u32,
+            numbers: usize,
+        ) -> u64;
     }
 
     // Safety: a slice of Rattle's is a pointer and how many numbers it points at; it is only read
@@ -123,5 +134,10 @@ mod linked {
 
     pub fn to_v2(section: &[u8], out: &mut [u8]) -> u64 {
         unsafe { brassdozen_to_v2(section.as_ptr(), section.len(), out.as_mut_ptr(), out.len()) }
+    }
+
+    pub fn walk(section: &[u8], entry: u32, records: &mut [u32]) -> u64 {
+        let (numbers, length) = (records.as_mut_ptr(), records.len());
+        unsafe { brassdozen_walk(section.as_ptr(), section.len(), entry, numbers, length) }
     }
 }

@@ -102,7 +102,7 @@ impl Section {
         bytes
     }
 
-    fn is_data(&self, place: usize) -> bool {
+    pub fn is_data(&self, place: usize) -> bool {
         self.ranges.iter().any(|range| range.has(place as u64))
     }
 }

@@ -1,4 +1,5 @@
-//! Brassdozen for Rust: a decoder, an encoder and a lister of A32, proved to meet their contracts.
+//! Brassdozen for Rust: a decoder, an encoder and a lister of A32, and a walk through it, proved to
+//! meet their contracts.
 //!
 //! Each function here is safe and calls one of `include/brassdozen.h`, which has its contract in
 //! words, and the layout of a row.
@@ -6,7 +7,7 @@
 #![no_std]
 
 /// The version that these declarations are of, as `BRASSDOZEN_VERSION` of the header says it.
-pub const VERSION: u32 = 20_100;
+pub const VERSION: u32 = 20_200;
 
 /// How many numbers a row has.
 pub const ROW: usize = 49;
@@ -19,6 +20,9 @@ pub const LISTING: usize = 393_280;
 
 /// No section that is accepted has more bytes.
 pub const SECTION: usize = 16_907;
+
+/// No report of a walk has more numbers.
+pub const REPORT: usize = 49_152;
 
 /// The number of a refusal.
 #[derive(Debug, Clone, Copy, PartialEq, Eq)]
@@ -61,6 +65,9 @@ impl Refusal {
 
     /// Converting to version 1: a section with ranges.
     pub const HAS_RANGES: Refusal = Refusal(12);
+
+    /// Walking: the entry is no place of the section.
+    pub const NO_PLACE: Refusal = Refusal(13);
 }
 
 impl core::error::Error for Refusal {}
@@ -86,6 +93,7 @@ impl core::fmt::Display for Refusal {
                  or not after the one before it"
             }
             12 => ": ranges of data, which version 1 does not have",
+            13 => ": entry not a place in the section",
             _ => "",
         };
         write!(f, "refused {}{why}", self.0)
@@ -162,6 +170,49 @@ pub fn to_v2(section: &[u8], out: &mut [u8]) -> Result<usize, Refusal> {
     given(number).map(|length| length as usize)
 }
 
+/// How long the report of a walk is, and how far it goes.
+#[derive(Debug, Clone, Copy, PartialEq, Eq)]
+pub struct Walk {
+    /// The number of records, of three numbers each: a place, a kind and a value.
+    pub records: usize,
+    /// The number of words that are reached.
+    pub words: usize,
+}
+
+/// The kinds of a walk's records.
+pub mod kind {
+    /// The walk comes to the place; the value is the word there.
+    pub const REACHED: u32 = 0;
+
+    /// A jump or a call to an address that is not in the section; the value is that address.
+    pub const OUT: u32 = 1;
+
+    /// A blx to an address, in the section or not, where Thumb is entered; the value is that address.
+    pub const THUMB: u32 = 2;
+
+    /// A jump or a call through a register or from memory, but no return; the value is 0.
+    pub const UNKNOWN: u32 = 3;
+
+    /// Going on from the last word; the value is 0.
+    pub const END: u32 = 4;
+
+    /// No instruction: the value is the number that the word is refused with, or 0 of data.
+    pub const STOPPED: u32 = 5;
+}
+
+/// Walks through a section from the place `entry`, and writes the report to the start of `records`.
+/// A refusal changes no number.
+pub fn walk(section: &[u8], entry: u32, records: &mut [u32]) -> Result<Walk, Refusal> {
+    let (numbers, length) = (records.as_mut_ptr(), records.len());
+    let number = unsafe {
+        foreign::brassdozen_walk(section.as_ptr(), section.len(), entry, numbers, length)
+    };
+    given(number).map(|both| Walk {
+        records: (both & 0xffff) as usize,
+        words: (both >> 16) as usize,
+    })
+}
+
 /// A refusal's number, or 0.
 fn done(refusal: u8) -> Result<(), Refusal> {
     match refusal {
@@ -214,6 +265,13 @@ mod foreign {
             section: *const u8,
             bytes: usize,
             out: *mut u8,
+            length: usize,
+        ) -> u64;
+        pub fn brassdozen_walk(
+            section: *const u8,
+            bytes: usize,
+            entry: u32,
+            records: *mut u32,
             length: usize,
         ) -> u64;
     }

@@ -6,13 +6,14 @@ use std::fs;
 use std::path::PathBuf;
 
 use brassdozen::{
-    LINE, LISTING, ROW, Refusal, SECTION, VERSION, decode, decode_bytes, encode, encode_zeros, home,
-    home_zeros, line, listing, to_v1, to_v2, version,
+    LINE, LISTING, REPORT, ROW, Refusal, SECTION, VERSION, Walk, decode, decode_bytes, encode,
+    encode_zeros, home, home_zeros, kind, line, listing, to_v1, to_v2, version, walk,
 };
 
 /// What a buffer holds before a call.
 const UNTOUCHED: u8 = 0xa5;
 const UNTOUCHED_NUMBER: u64 = 0xa5a5_a5a5_a5a5_a5a5;
+const UNTOUCHED_PART: u32 = 0xa5a5_a5a5;
 
 fn stored(path: &str) -> Vec<u8> {
     let file = PathBuf::from(env!("CARGO_MANIFEST_DIR"))
@@ -191,7 +192,11 @@ fn words_come_home() {
                 assert_eq!(home(back), Ok(back), "{word:08x}");
                 let zeros = home_zeros(word).expect("an accepted word has a home word");
                 assert_eq!(encode_zeros(&row), Ok(zeros), "{word:08x} at {address:x}");
-                assert_eq!(decoded(zeros, address), Ok(row), "{word:08x} at {address:x}");
+                assert_eq!(
+                    decoded(zeros, address),
+                    Ok(row),
+                    "{word:08x} at {address:x}"
+                );
                 assert_eq!(home(zeros), Ok(back), "{word:08x}");
                 assert_eq!(home_zeros(back), Ok(zeros), "{word:08x}");
                 assert_eq!(row[0], address);
@@ -254,7 +259,11 @@ fn different_work_has_different_rows_and_lines() {
             continue;
         };
         let same = home(word) == home(other);
-        assert_eq!(home_zeros(word) == home_zeros(other), same, "{word:08x} {other:08x}");
+        assert_eq!(
+            home_zeros(word) == home_zeros(other),
+            same,
+            "{word:08x} {other:08x}"
+        );
         assert_eq!(row == other_row, same, "{word:08x} {other:08x}");
         let text = |word| line_of(address, word)[18..].to_vec();
         assert_eq!(text(word) == text(other), same, "{word:08x} {other:08x}");
@@ -670,4 +679,214 @@ fn sections_are_refused_as_their_listings_say() {
     ] {
         assert!(seen.contains(&refusal), "{refusal}");
     }
+}
+
+type Record = [u32; 3];
+
+/// What a walk leaves in a buffer with each of these rooms has to be this report, or nothing.
+fn walked(section: &[u8], entry: u32, report: &[Record], rooms: impl IntoIterator<Item = usize>) {
+    let whole = report.as_flattened();
+    let reached = report.iter().filter(|record| record[1] == kind::REACHED);
+    let right = Walk {
+        records: report.len(),
+        words: reached.count(),
+    };
+    for room in rooms {
+        let mut records = vec![UNTOUCHED_PART; room];
+        let given = walk(section, entry, &mut records);
+        let written = if room < whole.len() {
+            assert_eq!(given, Err(Refusal::NO_ROOM), "{room}");
+            0
+        } else {
+            assert_eq!(given, Ok(right), "{room}");
+            assert_eq!(&records[..whole.len()], whole);
+            whole.len()
+        };
+        let rest = &records[written..];
+        assert!(rest.iter().all(|&part| part == UNTOUCHED_PART), "{room}");
+    }
+}
+
+/// Whatever the room, the walk is refused with this, and nothing is changed.
+fn not_walked(section: &[u8], entry: u32, refusal: Refusal) {
+    for room in [0, 2, 3, REPORT] {
+        let mut records = vec![UNTOUCHED_PART; room];
+        assert_eq!(walk(section, entry, &mut records), Err(refusal), "{room}");
+        assert!(records.iter().all(|&part| part == UNTOUCHED_PART), "{room}");
+    }
+}
+
+#[test]
+fn a_walk_shows_every_way_out() {
+    let words = [
+        0x0a00_0001, // beq to 3
+        0xeb03_e00d, // bl out
+        0xea00_0002, // b to 6
+        0xe12f_ff33, // blx r3
+        0xfbff_fffa, // blx to the middle of 0
+        0x112f_ff1e, // bxne lr
+        0x1a00_0000, // bne to 8
+        0xef00_0000, // a supervisor call, which is refused
+        0x0a00_0000, // beq to 10
+        0xe1a0_0000, // data
+        0xe1a0_0000, // goes on
+        0xfa00_0000, // blx out
+    ];
+    let report: [Record; 20] = [
+        [0, kind::REACHED, 0x0a00_0001],
+        [1, kind::REACHED, 0xeb03_e00d],
+        [1, kind::OUT, 0x0010_0040],
+        [2, kind::REACHED, 0xea00_0002],
+        [3, kind::REACHED, 0xe12f_ff33],
+        [3, kind::UNKNOWN, 0],
+        [4, kind::REACHED, 0xfbff_fffa],
+        [4, kind::THUMB, 0x8002],
+        [5, kind::REACHED, 0x112f_ff1e],
+        [6, kind::REACHED, 0x1a00_0000],
+        [7, kind::REACHED, 0xef00_0000],
+        [7, kind::STOPPED, 2],
+        [8, kind::REACHED, 0x0a00_0000],
+        [9, kind::REACHED, 0xe1a0_0000],
+        [9, kind::STOPPED, 0],
+        [10, kind::REACHED, 0xe1a0_0000],
+        [11, kind::REACHED, 0xfa00_0000],
+        [11, kind::OUT, 0x8034],
+        [11, kind::THUMB, 0x8034],
+        [11, kind::END, 0],
+    ];
+    let section = section_2(0x8000, &[(9, 1)], &words);
+    let rooms = || (0..=3 * report.len() + 3).chain([REPORT]);
+    walked(&section, 0, &report, rooms());
+    let from_2 = [&report[3..4], &report[9..]].concat();
+    walked(&section, 2, &from_2, rooms());
+    walked(&section, 9, &report[13..15], rooms());
+    walked(&section, 11, &report[16..], rooms());
+
+    for entry in [12, 13, 0x8000, 0x4000_0000, u32::MAX] {
+        not_walked(&section, entry, Refusal::NO_PLACE);
+    }
+    not_walked(&section_1(0x8000, &[]), 0, Refusal::NO_PLACE);
+    // The section's own refusal comes first.
+    not_walked(&section[..section.len() - 1], 12, Refusal::BAD_LENGTH);
+    not_walked(
+        &section_2(0x8000, &[(12, 1)], &words),
+        12,
+        Refusal::BAD_RANGES,
+    );
+    not_walked(&section_1(0x8002, &words), 12, Refusal::BAD_BASE);
+    not_walked(&section_1(0, &[0; 4097]), 4097, Refusal::TOO_MANY_WORDS);
+}
+
+/// The flow of the words of a section by their rows, and what it leads to by a search of its own.
+fn report_by_rows(
+    base: u32,
+    words: &[u32],
+    is_data: impl Fn(u32) -> bool,
+    entry: u32,
+) -> Vec<Record> {
+    let count = words.len() as u32;
+    let place_of = |target: u32| {
+        let place = target.checked_sub(base)? / 4;
+        (place < count).then_some(place)
+    };
+    let mut reports = vec![Vec::new(); words.len()];
+    let mut open = vec![entry];
+    while let Some(place) = open.pop() {
+        let report = &mut reports[place as usize];
+        if !report.is_empty() {
+            continue;
+        }
+        let word = words[place as usize];
+        report.push([place, kind::REACHED, word]);
+        if is_data(place) {
+            report.push([place, kind::STOPPED, 0]);
+            continue;
+        }
+        let row = match decoded(word, u64::from(base) + 4 * u64::from(place)) {
+            Ok(row) => row,
+            Err(Refusal(number)) => {
+                report.push([place, kind::STOPPED, number.into()]);
+                continue;
+            }
+        };
+        let (condition, flow, target) = (row[2], row[3], row[4] as u32);
+        if [1, 2, 4].contains(&flow) {
+            let is_thumb = condition == 15;
+            match place_of(target) {
+                None => report.push([place, kind::OUT, target]),
+                Some(_) if is_thumb => {}
+                Some(to) => open.push(to),
+            }
+            if is_thumb {
+                report.push([place, kind::THUMB, target]);
+            }
+        }
+        if [3, 5].contains(&flow) {
+            report.push([place, kind::UNKNOWN, 0]);
+        }
+        let goes_on = match flow {
+            0 | 2 | 4 | 5 => true,
+            1 => false,
+            _ => condition < 14,
+        };
+        if goes_on && place + 1 == count {
+            report.push([place, kind::END, 0]);
+        } else if goes_on {
+            open.push(place + 1);
+        }
+    }
+    reports.concat()
+}
+
+/// Half of the words are branches and calls to near places, and most others go on.
+#[test]
+fn walks_go_as_rows_lead() {
+    // A mov, and bx r3, blx r3, bx lr, pop {r4, pc}, udf under a condition
+    let others = [
+        0xe1a0_0000,
+        0xe1a0_0000,
+        0xe1a0_0000,
+        0x112f_ff13,
+        0xe12f_ff33,
+        0x112f_ff1e,
+        0x08bd_8010,
+        0x07f0_00f0,
+    ];
+    let mut random = Random(11);
+    let mut seen = [0; 6];
+    for _ in 0..4_000 {
+        let (base, mut words, ranges) = random_section(&mut random);
+        for word in &mut words {
+            match random.below(16) {
+                0..8 => {
+                    let offset = random.below(24).wrapping_sub(12) as u32 & 0x00ff_ffff;
+                    *word = *word & 0xf100_0000 | 0x0a00_0000 | offset;
+                }
+                8..15 => *word = others[random.below(8) as usize],
+                _ => {}
+            }
+        }
+        let count = words.len() as u32;
+        if count == 0 {
+            continue;
+        }
+        let entry = random.below(count.into()) as u32;
+        let has = |place| {
+            let has = |&(first, words)| (first..first + words).contains(&place);
+            ranges.iter().any(has)
+        };
+        let one = section_1(base, &words);
+        let two = section_2(base, &ranges, &words);
+        let by_1 = report_by_rows(base, &words, |_| false, entry);
+        let by_2 = report_by_rows(base, &words, has, entry);
+        for (section, report) in [(one, by_1), (two, by_2)] {
+            let whole = 3 * report.len();
+            walked(&section, entry, &report, [0, whole - 1, whole, whole + 3]);
+            not_walked(&section, count, Refusal::NO_PLACE);
+            for [_, kind, _] in report {
+                seen[kind as usize] += 1;
+            }
+        }
+    }
+    assert!(seen.iter().all(|&records| records > 1_000), "{seen:?}");
 }

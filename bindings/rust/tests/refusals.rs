@@ -15,7 +15,7 @@ fn refusals_read_as_the_table_has_them() {
         assert_eq!(refusal.to_string(), format!("refused {number}: {why}"));
         count += 1;
     }
-    assert!(count >= 12);
+    assert!(count >= 13);
     for number in [0, count + 1, 255] {
         assert_eq!(Refusal(number).to_string(), format!("refused {number}"));
     }

@@ -1,7 +1,11 @@
 -- No second result, and no second last state of a lent buffer, fits a contract. Each line is about the contract itself, as the check
 -- reads it from the source. Assumes nothing.
-use mathlib.Core.Path.{_≡_, _∙_, sym}
+use mathlib.Core.Path.{_≡_, _∙_, sym, ap}
+use Prim.Native.Nat.{_+_, _*_, _^_}
 use denote.Ref.{now}
+use Rattle.word_packed.specs.Packed.{packed}
+use Rattle.walk.specs.declared.Walked.{Walked}
+use Rattle.walk.proofs.Unique.{walks-only}
 use Rattle.brassdozen.proofs.brassdozen_version.Reads as version
 use Rattle.brassdozen.proofs.brassdozen_decode.Reads as decode
 use Rattle.brassdozen.proofs.brassdozen_decode_bytes.Reads as decode-bytes
@@ -11,6 +15,7 @@ use Rattle.brassdozen.proofs.brassdozen_home.Reads as home
 use Rattle.brassdozen.proofs.brassdozen_home_zeros.Reads as home-zeros
 use Rattle.brassdozen.proofs.brassdozen_line.Reads as line
 use Rattle.brassdozen.proofs.brassdozen_listing.Reads as listing
+use Rattle.brassdozen.proofs.brassdozen_walk.Reads as walk
 use Rattle.brassdozen.proofs.brassdozen_to_v1.Reads as to-v1
 use Rattle.brassdozen.proofs.brassdozen_to_v2.Reads as to-v2
 
@@ -49,3 +54,9 @@ to-v1-only κs a r r′ s s′ p q = (p .0 ∙ sym (q .0), p .1 ∙ sym (q .1))
 
 pub to-v2-only : (κs : _) (a : _) (r r′ : _) (s s′ : _) → to-v2.Post κs a r s → to-v2.Post κs a r′ s′ → (r ≡ r′) × (now (s .1 .0) ≡ now (s′ .1 .0))
 to-v2-only κs a r r′ s s′ p q = (p .0 ∙ sym (q .0), p .1 ∙ sym (q .1))
+
+pub walk-only : (κs : _) (a : _) (r r′ : _) (s s′ : _) → walk.Post κs a r s → walk.Post κs a r′ s′
+    → (r ≡ r′) × (now (s .1 .1 .0) ≡ now (s′ .1 .1 .0))
+walk-only κs a r r′ s s′ p q =
+    let same = walks-only (p .walks) (q .walks) in
+    (p .given ∙ ap (λ (w : Walked). packed (w .refusal) (2 ^ 16 * w .words + w .records)) (same .0) ∙ sym (q .given), same .1)

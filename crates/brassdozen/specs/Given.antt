@@ -1,7 +1,7 @@
 -- What the functions for other languages give and leave.
 use mathlib.Core.Path.{_≡_}
 use mathlib.Core.List.{List}
-use Prim.Native.Nat.{ℕ}
+use Prim.Native.Nat.{ℕ, _+_, _*_, _^_}
 use lib.Dec.{eqb}
 use lib.ListN.{getD}
 use Rattle.word.specs.Choice.{pick, both}
@@ -16,11 +16,13 @@ use Rattle.word_packed.specs.Packed.{packed}
 use Rattle.text.specs.Fits.{answerOf, lastOf}
 use Rattle.section_convert.specs.Convert.{givenOf}
 use Rattle.section_convert.specs.declared.Target.{Target}
+use Rattle.walk.specs.Walk.{Walks}
+use Rattle.walk.specs.declared.Walked.{Walked}
 use Rattle.insn_row.specs.Row.{ROW, rowOf, numbersOf, holds}
 
--- 2.1.0
+-- 2.2.0
 abbrev pub VERSION : ℕ
-VERSION = 20100
+VERSION = 20200
 
 -- an answer's refusal; or, of an accepted one, 10 if its row is longer than what is lent
 abbrev pub rowRefusal : Decoded → List ℕ → ℕ
@@ -57,3 +59,9 @@ writtenOf text out = packed (answerOf text out .refusal) (answerOf text out .len
 -- the length of a converted section, or the refusal's number
 abbrev pub convertedTo : Target → List ℕ → List ℕ → ℕ
 convertedTo target section out = packed (givenOf target section out .refusal) (givenOf target section out .len)
+
+-- what a walk gives and leaves: the number of its records, above 16 bits the words taken up, above 32 a refusal's number
+pub record WalksForC (s : List ℕ) (entry : ℕ) (out : List ℕ) (r : ℕ) (last : List ℕ) : Type 0 where
+  pub walked : Walked
+  pub walks : Walks s entry out walked last
+  pub given : r ≡ packed (walked .refusal) (2 ^ 16 * walked .words + walked .records)

@@ -13,6 +13,7 @@ use line::line;
 use listing_text::listing;
 use section_convert::Target;
 use section_convert::convert;
+use walk::walk;
 use word::refusal::NO_WORD;
 use word_packed::pack;
 ghost use mathlib.Core.Path.{_≡_};
@@ -21,6 +22,7 @@ ghost use Rattle.text.specs.Fits.{answerOf, lastOf};
 ghost use Rattle.line_spelling.specs.Line.{lineOf};
 ghost use Rattle.section_convert.specs.Convert.{leftOf};
 ghost use Rattle.listing_text.specs.Listing.{listingOf};
+ghost use Rattle.brassdozen.specs.Given.{WalksForC};
 ghost use Rattle.brassdozen.specs.Given.{VERSION, rowRefusal, rowLast, encodedOf, homedOf, writtenOf, convertedTo};
 
 /// The library's version: 10,000 for each major one, 100 for each minor one, and one for each patch.
@@ -28,7 +30,7 @@ ghost use Rattle.brassdozen.specs.Given.{VERSION, rowRefusal, rowLast, e
 pub extern "C" fn brassdozen_version() -> u32
     ensures { λ r. ⌜ r ≡ VERSION ⌝ }
 {
-    20_100
+    20_200
 }
 
 /// Decodes `word` at `addr` into the row of its answer, and gives 0; or gives a refusal's number.
@@ -155,4 +157,14 @@ pub extern "C" fn brassdozen_to_v2(section: &[u8], out: &mut [u8]) -> u64
 {
     let w = convert(section, Target::Two, out);
     pack(w.refusal, w.len as u32)
+}
+
+/// Walks through `section` from place `entry` and writes the report's records, of three numbers each. Gives how many there are, above that how many
+/// words were taken up, and a refusal's number above both.
+#[no_mangle]
+pub extern "C" fn brassdozen_walk(section: &[u8], entry: u32, records: &mut [u32]) -> u64
+    ensures { λ r. ⌜ WalksForC (now (section .entry)) entry (now (records .entry)) r (now (records .exit)) ⌝ }
+{
+    let w = walk(section, entry as usize, records);
+    pack(w.refusal, 0x1_0000 * w.words as u32 + w.records as u32)
 }

@@ -23,7 +23,7 @@ use Rattle.encode_home.specs.Home.{homeOf}
 use Rattle.encode_home.specs.Alike.{Alike}
 use Rattle.encode.specs.declared.Encoded.{Encoded}
 use Rattle.word_packed.specs.Packed.{packed}
-use Rattle.section.specs.Section.{versionOf, baseOf, rangeCount, firsts, countOf, refusalOf, placesOf}
+use Rattle.section.specs.Section.{versionOf, baseOf, rangeCount, firsts, countOf, refusalOf, openedOf, placesOf, hereOf}
 use Rattle.section.specs.Accepted.{Accepted}
 use Rattle.section.specs.declared.Here.the-variants.{Word as WordHere, Data}
 use Rattle.section.specs.declared.Opened.{Opened}
@@ -34,6 +34,11 @@ use Rattle.text.specs.Text.{bytes, decimalOf, hexOf}
 use Rattle.text.specs.declared.Written.{Written}
 use Rattle.line_spelling.specs.Line.{answerText, lineText}
 use Rattle.listing_text.specs.Listing.{dataLine, lineHere, namedHere, refusedHere, dataHere, total, closingOf, listingOf}
+use Rattle.walk_steps.specs.Steps.{stepsOf}
+use Rattle.walk.specs.Reached.{Reached}
+use Rattle.walk.specs.Walk.{Walks}
+use Rattle.walk.specs.Kept.{NoWayOut, Kept}
+use Rattle.walk.specs.declared.Walked.{Walked}
 use Rattle.promises_predicated.specs.Predicated.{under}
 use Rattle.manual.specs.A5.{tableRow}
 use Rattle.manual.specs.A8.{rowOf as pageOf}
@@ -41,7 +46,7 @@ use Rattle.manual.specs.ShouldBe.{asDrawn}
 use Rattle.manual.specs.Stands.{Stands, inRange}
 use Rattle.manual_drawn.specs.Exceptions.{excepted}
 use Rattle.insn_row.specs.Row.{rowOf}
-use Rattle.brassdozen.specs.Given.{Answers}
+use Rattle.brassdozen.specs.Given.{Answers, WalksForC}
 use Rattle.a32.proofs.decode as decode
 use Rattle.a32.proofs.decode_bytes as decode-bytes
 use Rattle.encode.proofs.encode as encode
@@ -52,6 +57,7 @@ use Rattle.section.proofs.open as open-section
 use Rattle.section_convert.proofs.convert as convert
 use Rattle.line.proofs.line as line
 use Rattle.listing_text.proofs.listing as listing
+use Rattle.walk.proofs.walk as walk
 use Rattle.brassdozen.proofs.brassdozen_version as c-version
 use Rattle.brassdozen.proofs.brassdozen_decode as c-decode
 use Rattle.brassdozen.proofs.brassdozen_decode_bytes as c-decode-bytes
@@ -63,12 +69,14 @@ use Rattle.brassdozen.proofs.brassdozen_line as c-line
 use Rattle.brassdozen.proofs.brassdozen_listing as c-listing
 use Rattle.brassdozen.proofs.brassdozen_to_v1 as c-to-v1
 use Rattle.brassdozen.proofs.brassdozen_to_v2 as c-to-v2
+use Rattle.brassdozen.proofs.brassdozen_walk as c-walk
 use Rattle.a32_elsewhere.proofs.Elsewhere as Elsewhere
 use Rattle.encode_home.proofs.Same as Same
 use Rattle.encode.proofs.Encodes as Encodes
 use Rattle.section.proofs.Accepted as Sections
 use Rattle.section.proofs.Places as Places
 use Rattle.section_convert.proofs.Converts as Conversion
+use Rattle.walk.proofs.Kept as Walking
 use Rattle.manual_follows.proofs.Follows as Follows
 use Rattle.manual_drawn.proofs.Drawn as Drawn
 use Rattle.promises_differ.proofs.Alike as Differ
@@ -153,6 +161,9 @@ module _ (κ κ′ : Lft) where
   abbrev Converts : (section : Slice) → Target → (out : Slice) → Written → (out′ : Slice) → Type 0
   Converts section target out r out′ = convert.Reads.Post (κ, (κ′, tt)) (section, (target, (out, tt))) r (section, (target, (out′, tt)))
 
+  abbrev WalksFrom : (section : Slice) (entry : ℕ) (out : Slice) → Walked → (out′ : Slice) → Type 0
+  WalksFrom section entry out r out′ = walk.Reads.Post (κ, (κ′, tt)) (section, (entry, (out, tt))) r (section, (entry, (out′, tt)))
+
   -- and those for C and Rust
 
   abbrev DecodesToRow : (w addr : ℕ) (row : Slice) → ℕ → (row′ : Slice) → Type 0
@@ -180,6 +191,9 @@ module _ (κ κ′ : Lft) where
   ConvertsForC One section out p out′ = c-to-v1.Reads.Post (κ, (κ′, tt)) (section, (out, tt)) p (section, (out′, tt))
   ConvertsForC Two section out p out′ = c-to-v2.Reads.Post (κ, (κ′, tt)) (section, (out, tt)) p (section, (out′, tt))
 
+  abbrev WalksFromForC : (section : Slice) (entry : ℕ) (out : Slice) → ℕ → (out′ : Slice) → Type 0
+  WalksFromForC section entry out p out′ = c-walk.Reads.Post (κ, (κ′, tt)) (section, (entry, (out, tt))) p (section, (entry, (out′, tt)))
+
   -- 1. Taken without fault.
 
   -- Every function takes every input.
@@ -194,6 +208,7 @@ module _ (κ κ′ : Lft) where
       × Taken convert.Statement.statement convert.Reads.Asked
       × Taken line.Statement.statement line.Reads.Asked
       × Taken listing.Statement.statement listing.Reads.Asked
+      × Taken walk.Statement.statement walk.Reads.Asked
       × Taken c-version.Statement.statement c-version.Reads.Asked
       × Taken c-decode.Statement.statement c-decode.Reads.Asked
       × Taken c-decode-bytes.Statement.statement c-decode-bytes.Reads.Asked
@@ -205,6 +220,7 @@ module _ (κ κ′ : Lft) where
       × Taken c-listing.Statement.statement c-listing.Reads.Asked
       × Taken c-to-v1.Statement.statement c-to-v1.Reads.Asked
       × Taken c-to-v2.Statement.statement c-to-v2.Reads.Asked
+      × Taken c-walk.Statement.statement c-walk.Reads.Asked
   taken = (
     (λ M. decode.Met.met, λ κs a. tt),
     (λ M. decode-bytes.Met.met, λ κs a. tt),
@@ -216,6 +232,7 @@ module _ (κ κ′ : Lft) where
     (λ M. convert.Met.met, λ κs a. tt),
     (λ M. line.Met.met, λ κs a. tt),
     (λ M. listing.Met.met, λ κs a. tt),
+    (λ M. walk.Met.met, λ κs a. tt),
     (λ M. c-version.Met.met, λ κs a. tt),
     (λ M. c-decode.Met.met, λ κs a. tt),
     (λ M. c-decode-bytes.Met.met, λ κs a. tt),
@@ -227,6 +244,7 @@ module _ (κ κ′ : Lft) where
     (λ M. c-listing.Met.met, λ κs a. tt),
     (λ M. c-to-v1.Met.met, λ κs a. tt),
     (λ M. c-to-v2.Met.met, λ κs a. tt),
+    (λ M. c-walk.Met.met, λ κs a. tt),
   )
 
   -- Fewer than four bytes are refused with 1; of more, the first four are decoded, low byte first.
@@ -457,3 +475,19 @@ module _ (κ κ′ : Lft) where
       let there = Left.is-converted target (now section) (now out) (rw (wrote .0) at ok) in
       let back = Left.is-converted (ownOf (now section)) (now lent) (now out₂) (rw (wrote₂ .0) at ok₂) in
       rw (wrote₂ .0, wrote₂ .1, back .1, is, wrote .0, wrote .1, there .1) (Conversion.back target (now section) (there .0))
+
+  -- A walk is refused and changes nothing, or it reports, place by place, exactly what a chain of steps from the entry leads to, and each way out.
+  pub walks : (section : Slice) (entry : ℕ) (out out′ : Slice) (r : Walked) → WalksFrom section entry out r out′
+      → Walks (now section) entry (now out) r (now out′)
+  walks section entry out out′ r is = is
+
+  pub walks-for-c : (section : Slice) (entry : ℕ) (out out′ : Slice) (p : ℕ) → WalksFromForC section entry out p out′
+      → WalksForC (now section) entry (now out) p (now out′)
+  walks-for-c section entry out out′ p is = is
+
+  -- If it reports words that are reached and nothing else, each of them is an accepted word, and each way that it goes stays in the section; only
+  -- returns and traps end a chain.
+  pub no-way-out : (section : Slice) (entry : ℕ) (out out′ : Slice) (r : Walked) → WalksFrom section entry out r out′ → r .refusal ≡ 0
+      → NoWayOut (take (3 * r .records) (now out′)) → (p : ℕ) → Reached (stepsOf (now section)) entry p
+      → Kept (openedOf (now section)) p (hereOf (now section) p)
+  no-way-out section entry out out′ r is ok quiet = Walking.no-way-out is ok quiet

@@ -37,7 +37,7 @@ TOO_MANY_WORDS = 8
 abbrev pub BAD_BASE : ℕ
 BAD_BASE = 9
 
--- "line longer than the lent buffer"; "when the converted section doesn't fit the lent buffer"
+-- "line longer than the lent buffer"; "when the converted section doesn't fit the lent buffer"; "when the report doesn't fit its lent buffer"
 abbrev pub NO_ROOM : ℕ
 NO_ROOM = 10
 
@@ -48,3 +48,7 @@ BAD_RANGES = 11
 -- "converting back with ranges"
 abbrev pub HAS_RANGES : ℕ
 HAS_RANGES = 12
+
+-- "entry not a place in the section"
+abbrev pub NO_PLACE : ℕ
+NO_PLACE = 13

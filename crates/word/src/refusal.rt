@@ -27,7 +27,7 @@ pub const TOO_MANY_WORDS: u8 = 8;
 /// Base not a multiple of 4, or base + 4 x words above 2^32.
 pub const BAD_BASE: u8 = 9;
 
-/// Line or converted section longer than the lent buffer.
+/// Line, converted section or report longer than the lent buffer.
 pub const NO_ROOM: u8 = 10;
 
 /// Range list that breaks a rule.
@@ -35,3 +35,6 @@ pub const BAD_RANGES: u8 = 11;
 
 /// Converting back, with ranges.
 pub const HAS_RANGES: u8 = 12;
+
+/// Entry of a walk that is no place in the section.
+pub const NO_PLACE: u8 = 13;

@@ -1,0 +1,52 @@
+-- `walk::put_in` meets its contract. Assumes nothing.
+use mathlib.Core.Path.{ap}
+use mathlib.Core.Bool.{Bool}
+use native.Mathlib.Omega.{arith}
+use lib.ListN.{length, length-append}
+use Rattle.text.proofs.Writing.{_then_}
+use Rattle.walk.specs.Report.{threeOf, waysIn}
+use borrow.Author.Needs.{needs}
+use Rattle.walk.proofs.put_in.Statement.{statement}
+use Rattle.walk.proofs.put_in.Tie as tie
+
+put-three-requires : tie.Need-put-three-requires
+unfolding waysIn
+put-three-requires c κs = let pre = c .before .before .pre in (omega (arith, simp length-append at (pre .0)), pre .1)
+
+leaves-requires : tie.Need-leaves-requires
+leaves-requires c κs = search needs
+
+put-three-requires-2 : tie.Need-put-three-requires-2
+unfolding waysIn
+put-three-requires-2 c κs =
+    let pre = c .before .before .before .before .before .before .before .pre in
+    (rw (c .before .leaves .ensures) (omega (arith, simp length-append at (pre .0))), pre .1)
+
+put-three-requires-3 : tie.Need-put-three-requires-3
+unfolding waysIn
+put-three-requires-3 c κs =
+    let second = c .before .before .before in
+    let start = second .before .before .before .before .before .before .before .before in
+    let same = ap (λ (b : Bool). length (threeOf b (start .args .place) 1 (start .args .leads .target))) (second .before .before .leaves .ensures) in
+    (omega (arith, same, simp length-append at (start .pre .0)), start .pre .1)
+
+same-length : tie.Need-same-length
+same-length c = search needs
+
+returns : tie.Need-returns
+returns c = unfold waysIn in
+    let third = c .before .before in
+    let second = third .before .before .before .before in
+    let first = second .before .before .before .before .before in
+    first .put-three .ensures then rw (second .before .before .leaves .ensures) at (second .put-three2 .ensures) then third .put-three3 .ensures
+
+pub put-in-spec : {M : Type 1} → statement M
+put-in-spec =
+    tie.close
+    (tie.spec
+    put-three-requires
+    leaves-requires
+    put-three-requires-2
+    put-three-requires-3
+    same-length
+    returns)
