@@ -3,6 +3,7 @@
 use mathlib.Core.Path.{_≡_, _∙_, sym, ap}
 use Prim.Native.Nat.{_+_, _*_, _^_}
 use denote.Ref.{now}
+use Rattle.word.specs.Only.{Only}
 use Rattle.word_packed.specs.Packed.{packed}
 use Rattle.walk.specs.declared.Walked.{Walked}
 use Rattle.walk.proofs.Unique.{walks-only}
@@ -19,7 +20,7 @@ use Rattle.brassdozen.proofs.brassdozen_walk.Reads as walk
 use Rattle.brassdozen.proofs.brassdozen_to_v1.Reads as to-v1
 use Rattle.brassdozen.proofs.brassdozen_to_v2.Reads as to-v2
 
-pub version-only : (κs : _) (a : _) (r r′ : _) (s s′ : _) → version.Post κs a r s → version.Post κs a r′ s′ → r ≡ r′
+pub version-only : Only version.Post
 version-only κs a r r′ s s′ p q = p ∙ sym q
 
 pub decode-only : (κs : _) (a : _) (r r′ : _) (s s′ : _) → decode.Post κs a r s → decode.Post κs a r′ s′
@@ -30,16 +31,16 @@ pub decode-bytes-only : (κs : _) (a : _) (r r′ : _) (s s′ : _) → decode-b
     → (r ≡ r′) × (now (s .1 .1 .0) ≡ now (s′ .1 .1 .0))
 decode-bytes-only κs a r r′ s s′ p q = (p .0 ∙ sym (q .0), p .1 ∙ sym (q .1))
 
-pub encode-only : (κs : _) (a : _) (r r′ : _) (s s′ : _) → encode.Post κs a r s → encode.Post κs a r′ s′ → r ≡ r′
+pub encode-only : Only encode.Post
 encode-only κs a r r′ s s′ p q = p ∙ sym q
 
-pub home-only : (κs : _) (a : _) (r r′ : _) (s s′ : _) → home.Post κs a r s → home.Post κs a r′ s′ → r ≡ r′
+pub home-only : Only home.Post
 home-only κs a r r′ s s′ p q = p ∙ sym q
 
-pub encode-zeros-only : (κs : _) (a : _) (r r′ : _) (s s′ : _) → encode-zeros.Post κs a r s → encode-zeros.Post κs a r′ s′ → r ≡ r′
+pub encode-zeros-only : Only encode-zeros.Post
 encode-zeros-only κs a r r′ s s′ p q = p ∙ sym q
 
-pub home-zeros-only : (κs : _) (a : _) (r r′ : _) (s s′ : _) → home-zeros.Post κs a r s → home-zeros.Post κs a r′ s′ → r ≡ r′
+pub home-zeros-only : Only home-zeros.Post
 home-zeros-only κs a r r′ s s′ p q = p ∙ sym q
 
 pub line-only : (κs : _) (a : _) (r r′ : _) (s s′ : _) → line.Post κs a r s → line.Post κs a r′ s′ → (r ≡ r′) × (now (s .1 .1 .0) ≡ now (s′ .1 .1 .0))

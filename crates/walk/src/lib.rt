@@ -244,9 +244,6 @@ fn report_len(reached: &[u8], section: &[u8], opened: Opened) -> usize
     len
 }
 
-/// A buffer of so many numbers takes the report of every walk.
-pub const ENOUGH: usize = 49152;
-
 /// What a walk gives: how many records there are, and how many words were taken up; or the number of a refusal, and zeros.
 pub struct Walked {
     pub refusal: u8,

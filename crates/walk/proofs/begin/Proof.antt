@@ -5,21 +5,6 @@ use borrow.Author.Needs.{needs}
 use Rattle.walk.proofs.begin.Statement.{statement}
 use Rattle.walk.proofs.begin.Tie as tie
 
-set-requires : tie.Need-set-requires
-set-requires c κs = search needs
-
-cast-list : tie.Need-cast-list
-cast-list c = search needs
-
-slice-write-list : tie.Need-slice-write-list
-slice-write-list c = search needs
-
-same-length : tie.Need-same-length
-same-length c = search needs
-
-same-length-2 : tie.Need-same-length-2
-same-length-2 c = search needs
-
 returns : tie.Need-returns
 returns c =
     let start = c .before .before .before .before .before .before in
@@ -27,4 +12,5 @@ returns c =
 
 pub begin-spec : {M : Type 1} → statement M
 begin-spec =
-    tie.close (tie.spec set-requires cast-list slice-write-list same-length same-length-2 returns)
+    tie.close (tie.spec (search needs) (search needs) (search needs) (λ c. search needs)
+    (λ c. search needs) returns)

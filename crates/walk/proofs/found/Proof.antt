@@ -10,23 +10,8 @@ use borrow.Author.Needs.{needs}
 use Rattle.walk.proofs.found.Statement.{statement}
 use Rattle.walk.proofs.found.Tie as tie
 
-slice-aggregate-search : tie.Need-slice-aggregate-search
-slice-aggregate-search c = search needs
-
-slice-aggregate-search-2 : tie.Need-slice-aggregate-search-2
-slice-aggregate-search-2 c = search needs
-
 search-requires : tie.Need-search-requires
 search-requires c κs = (c .before .before .before .before .pre, (no-marks 4096, length-replicate {A = ℕ} 4096 0))
-
-slice-aggregate-report : tie.Need-slice-aggregate-report
-slice-aggregate-report c = search needs
-
-report-requires : tie.Need-report-requires
-report-requires c κs = search needs
-
-same-length : tie.Need-same-length
-same-length c = search needs
 
 returns : tie.Need-returns
 returns c =
@@ -46,12 +31,5 @@ returns c =
 
 pub found-spec : {M : Type 1} → statement M
 found-spec =
-    tie.close
-    (tie.spec
-    slice-aggregate-search
-    slice-aggregate-search-2
-    search-requires
-    slice-aggregate-report
-    report-requires
-    same-length
-    returns)
+    tie.close (tie.spec
+    (search needs) (search needs) search-requires (search needs) (λ c κs. search needs) (λ c. search needs) returns)

@@ -7,15 +7,6 @@ use borrow.Author.Needs.{needs}
 use Rattle.walk.proofs.here_len.Statement.{statement}
 use Rattle.walk.proofs.here_len.Tie as tie
 
-get-requires : tie.Need-get-requires
-get-requires c κs = search needs
-
-leads-at-requires : tie.Need-leads-at-requires
-leads-at-requires c κs = search needs
-
-records-len-requires : tie.Need-records-len-requires
-records-len-requires c κs = search needs
-
 returns : tie.Need-returns
 returns c =
     let leads = c .before in
@@ -32,5 +23,5 @@ returns-2 c =
     sym (ap length (here-not (start .args .section .now) (marksOf (start .args .reached .now)) (start .args .place) left))
 
 pub here-len-spec : {M : Type 1} → statement M
-here-len-spec =
-    tie.close (tie.spec get-requires leads-at-requires records-len-requires returns returns-2)
+here-len-spec = tie.close (tie.spec
+    (λ c κs. search needs) (λ c κs. search needs) (λ c κs. search needs) returns returns-2)

@@ -19,9 +19,6 @@ get-requires c κs =
     let held = start .pre .0 in
     omega (arith, held .few, held .marks, start .pre .1 (isset _ (c .before .if1 .left)))
 
-same-length : tie.Need-same-length
-same-length c = search needs
-
 returns-2 : tie.Need-returns-2
 returns-2 c =
     let start = c .before .before .before .before .before .before in
@@ -61,12 +58,6 @@ slice-write-list c = omega (arith, start-of c .pre .0 .room, fits c)
 add-result : tie.Need-add-result
 add-result c = omega (arith, fits c)
 
-same-length-2 : tie.Need-same-length-2
-same-length-2 c = search needs
-
-same-length-3 : tie.Need-same-length-3
-same-length-3 c = search needs
-
 returns-3 : tie.Need-returns-3
 returns-3 c =
     let start = start-of c in
@@ -79,17 +70,5 @@ returns-3 c =
 
 pub push-spec : {M : Type 1} → statement M
 push-spec =
-    tie.close
-    (tie.spec
-    returns
-    get-requires
-    same-length
-    returns-2
-    set-requires
-    cast-list
-    mul-list
-    slice-write-list
-    add-result
-    same-length-2
-    same-length-3
-    returns-3)
+    tie.close (tie.spec returns get-requires (λ c. search needs) returns-2 set-requires cast-list
+    mul-list slice-write-list add-result (λ c. search needs) (λ c. search needs) returns-3)

@@ -9,12 +9,6 @@ use borrow.Author.Needs.{needs}
 use Rattle.walk.proofs.put_here.Statement.{statement}
 use Rattle.walk.proofs.put_here.Tie as tie
 
-get-requires : tie.Need-get-requires
-get-requires c κs = search needs
-
-leads-at-requires : tie.Need-leads-at-requires
-leads-at-requires c κs = search needs
-
 put-records-requires : tie.Need-put-records-requires
 put-records-requires c κs =
     let start = c .before .before .before .before .before .before .before in
@@ -23,9 +17,6 @@ put-records-requires c κs =
     let marks = marksOf (start .args .reached .now) in
     let same = here-is (start .args .section .now) marks (start .args .place) (pre .0 .0) (c .before .leads-at .ensures) marked in
     (omega (arith, ap length same, pre .1), pre .0 .2, pre .0 .1)
-
-same-length : tie.Need-same-length
-same-length c = search needs
 
 returns : tie.Need-returns
 returns c =
@@ -44,5 +35,5 @@ returns-2 c =
 
 pub put-here-spec : {M : Type 1} → statement M
 put-here-spec =
-    tie.close
-    (tie.spec get-requires leads-at-requires put-records-requires same-length returns returns-2)
+    tie.close (tie.spec
+    (λ c κs. search needs) (λ c κs. search needs) put-records-requires (λ c. search needs) returns returns-2)

@@ -13,9 +13,6 @@ put-three-requires : tie.Need-put-three-requires
 unfolding waysIn
 put-three-requires c κs = let pre = c .before .before .pre in (omega (arith, simp length-append at (pre .0)), pre .1)
 
-leaves-requires : tie.Need-leaves-requires
-leaves-requires c κs = search needs
-
 put-three-requires-2 : tie.Need-put-three-requires-2
 unfolding waysIn
 put-three-requires-2 c κs =
@@ -30,9 +27,6 @@ put-three-requires-3 c κs =
     let same = ap (λ (b : Bool). length (threeOf b (start .args .place) 1 (start .args .leads .target))) (second .before .before .leaves .ensures) in
     (omega (arith, same, simp length-append at (start .pre .0)), start .pre .1)
 
-same-length : tie.Need-same-length
-same-length c = search needs
-
 returns : tie.Need-returns
 returns c = unfold waysIn in
     let third = c .before .before in
@@ -42,11 +36,5 @@ returns c = unfold waysIn in
 
 pub put-in-spec : {M : Type 1} → statement M
 put-in-spec =
-    tie.close
-    (tie.spec
-    put-three-requires
-    leaves-requires
-    put-three-requires-2
-    put-three-requires-3
-    same-length
-    returns)
+    tie.close (tie.spec put-three-requires (search needs) put-three-requires-2 put-three-requires-3
+    (λ c. search needs) returns)

@@ -13,17 +13,11 @@ put-three-requires : tie.Need-put-three-requires
 unfolding waysOut
 put-three-requires c κs = let pre = c .before .before .pre in (omega (arith, simp length-append at (pre .0)), pre .1)
 
-runs-off-requires : tie.Need-runs-off-requires
-runs-off-requires c κs = search needs
-
 put-three-requires-2 : tie.Need-put-three-requires-2
 unfolding waysOut
 put-three-requires-2 c κs =
     let pre = c .before .before .before .before .before .before .before .pre in
     (rw (c .before .runs-off .ensures) (omega (arith, simp length-append at (pre .0))), pre .1)
-
-cast-put-three : tie.Need-cast-put-three
-cast-put-three c = search needs
 
 put-three-requires-3 : tie.Need-put-three-requires-3
 unfolding waysOut
@@ -32,9 +26,6 @@ put-three-requires-3 c κs =
     let start = second .before .before .before .before .before .before .before .before in
     let same = ap (λ (b : Bool). length (threeOf b (start .args .place) 4 0)) (second .before .before .runs-off .ensures) in
     (omega (arith, same, simp length-append at (start .pre .0)), start .pre .1)
-
-same-length : tie.Need-same-length
-same-length c = search needs
 
 returns : tie.Need-returns
 returns c = unfold waysOut in
@@ -45,12 +36,5 @@ returns c = unfold waysOut in
 
 pub put-out-spec : {M : Type 1} → statement M
 put-out-spec =
-    tie.close
-    (tie.spec
-    put-three-requires
-    runs-off-requires
-    put-three-requires-2
-    cast-put-three
-    put-three-requires-3
-    same-length
-    returns)
+    tie.close (tie.spec put-three-requires (search needs) put-three-requires-2 (search needs)
+    put-three-requires-3 (λ c. search needs) returns)

@@ -17,11 +17,8 @@ put-out-requires c κs =
     let pre = c .before .before .before .before .before .before .pre in
     (omega (arith, simp length-append at (pre .0)), pre .1, pre .2)
 
-same-length : tie.Need-same-length
-same-length c = search needs
-
 returns : tie.Need-returns
 returns c = unfold recordsFrom in c .before .before .before .before .before .before .put-in .ensures then c .before .before .put-out .ensures
 
 pub put-records-spec : {M : Type 1} → statement M
-put-records-spec = tie.close (tie.spec put-in-requires put-out-requires same-length returns)
+put-records-spec = tie.close (tie.spec put-in-requires put-out-requires (λ c. search needs) returns)

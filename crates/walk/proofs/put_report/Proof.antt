@@ -21,9 +21,6 @@ Inv-loop out₀ reached section opened n at₀ place₀ out at place =
 abbrev μ-loop : tie.MeasureT-loop
 μ-loop out₀ reached section opened n at₀ place₀ out at place = n - place
 
-cast-n : tie.Need-cast-n Inv-loop μ-loop
-cast-n c = search needs
-
 loop-holds : tie.Need-loop-holds Inv-loop μ-loop
 loop-holds c = (refl, omega arith, refl, none _ 0)
 
@@ -42,9 +39,6 @@ put-here-requires c κs =
         pre .1,
       ),
     )
-
-add-place : tie.Need-add-place Inv-loop μ-loop
-add-place c = search needs
 
 loop-less : tie.Need-loop-less Inv-loop μ-loop
 loop-less c = omega arith
@@ -69,15 +63,5 @@ returns c =
 
 pub put-report-spec : {M : Type 1} → statement M
 put-report-spec =
-    tie.close
-    (tie.spec
-    Inv-loop
-    μ-loop
-    cast-n
-    loop-holds
-    put-here-requires
-    add-place
-    loop-less
-    loop-again
-    same-length
-    returns)
+    tie.close (tie.spec
+    Inv-loop μ-loop (search needs) loop-holds put-here-requires (search needs) loop-less loop-again same-length returns)

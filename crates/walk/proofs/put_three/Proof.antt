@@ -15,56 +15,20 @@ returns c = simp (unset (c .before .args .there) (c .if1 .taken)) (none _ _)
 room : (c : tie.Else1) → c .before .args .at + 3 ≤ length (c .before .args .out .now)
 room c = rw (isset (c .before .args .there) (c .if1 .left)) at (c .before .pre .0)
 
-cast-out : tie.Need-cast-out
-cast-out c = search needs
-
-mul-out : tie.Need-mul-out
-mul-out c = search needs
-
 slice-write-out : tie.Need-slice-write-out
 slice-write-out c = omega (arith, room c)
-
-add-out : tie.Need-add-out
-add-out c = search needs
-
-mul-out-2 : tie.Need-mul-out-2
-mul-out-2 c = search needs
 
 slice-write-out-2 : tie.Need-slice-write-out-2
 slice-write-out-2 c = simp length-set (omega (arith, room c))
 
-add-out-2 : tie.Need-add-out-2
-add-out-2 c = search needs
-
-mul-out-3 : tie.Need-mul-out-3
-mul-out-3 c = search needs
-
 slice-write-out-3 : tie.Need-slice-write-out-3
 slice-write-out-3 c = simp length-set (omega (arith, room c))
-
-add-result : tie.Need-add-result
-add-result c = search needs
-
-same-length : tie.Need-same-length
-same-length c = search needs
 
 returns-2 : tie.Need-returns-2
 returns-2 c = simp (isset (c .before .args .there) (c .if1 .left)) (three-put _ _ _ _ _ (room c))
 
 pub put-three-spec : {M : Type 1} → statement M
 put-three-spec =
-    tie.close
-    (tie.spec
-    returns
-    cast-out
-    mul-out
-    slice-write-out
-    add-out
-    mul-out-2
-    slice-write-out-2
-    add-out-2
-    mul-out-3
-    slice-write-out-3
-    add-result
-    same-length
-    returns-2)
+    tie.close (tie.spec returns (search needs) (search needs) slice-write-out (search needs)
+    (search needs) slice-write-out-2 (search needs) (search needs) slice-write-out-3 (search needs)
+    (λ c. search needs) returns-2)

@@ -7,18 +7,6 @@ use borrow.Author.Needs.{needs}
 use Rattle.walk.proofs.report.Statement.{statement}
 use Rattle.walk.proofs.report.Tie as tie
 
-report-len-requires : tie.Need-report-len-requires
-report-len-requires c κs = search needs
-
-put-report-requires : tie.Need-put-report-requires
-put-report-requires c κs = search needs
-
-refuse-requires : tie.Need-refuse-requires
-refuse-requires c κs = search needs
-
-same-length : tie.Need-same-length
-same-length c = search needs
-
 returns : tie.Need-returns
 returns c =
     let then = c .before .before .before .before in
@@ -32,11 +20,5 @@ returns-2 c =
 
 pub report-spec : {M : Type 1} → statement M
 report-spec =
-    tie.close
-    (tie.spec
-    report-len-requires
-    put-report-requires
-    refuse-requires
-    same-length
-    returns
-    returns-2)
+    tie.close (tie.spec
+    (λ c κs. search needs) (λ c κs. search needs) (λ c κs. search needs) (λ c. search needs) returns returns-2)

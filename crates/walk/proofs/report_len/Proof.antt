@@ -17,9 +17,6 @@ Inv-loop reached section opened n len₀ place₀ len place =
 abbrev μ-loop : tie.MeasureT-loop
 μ-loop reached section opened n len₀ place₀ len place = n - place
 
-cast-n : tie.Need-cast-n Inv-loop μ-loop
-cast-n c = search needs
-
 loop-holds : tie.Need-loop-holds Inv-loop μ-loop
 loop-holds c = (omega arith, refl, refl)
 
@@ -46,9 +43,6 @@ add-len c =
       start .pre .1,
     )
 
-add-place : tie.Need-add-place Inv-loop μ-loop
-add-place c = search needs
-
 loop-less : tie.Need-loop-less Inv-loop μ-loop
 loop-less c = omega arith
 
@@ -69,15 +63,5 @@ returns c =
 
 pub report-len-spec : {M : Type 1} → statement M
 report-len-spec =
-    tie.close
-    (tie.spec
-    Inv-loop
-    μ-loop
-    cast-n
-    loop-holds
-    here-len-requires
-    add-len
-    add-place
-    loop-less
-    loop-again
-    returns)
+    tie.close (tie.spec
+    Inv-loop μ-loop (search needs) loop-holds here-len-requires add-len (search needs) loop-less loop-again returns)

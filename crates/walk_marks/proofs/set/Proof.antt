@@ -8,11 +8,8 @@ use Rattle.walk_marks.proofs.set.Tie as tie
 slice-write-marks : tie.Need-slice-write-marks
 slice-write-marks c = omega (arith, length-marks (c .args .marks .now))
 
-same-length : tie.Need-same-length
-same-length c = search needs
-
 returns : tie.Need-returns
 returns c = marking _ _
 
 pub set-spec : {M : Type 1} → statement M
-set-spec = tie.close (tie.spec slice-write-marks same-length returns)
+set-spec = tie.close (tie.spec slice-write-marks (λ c. search needs) returns)

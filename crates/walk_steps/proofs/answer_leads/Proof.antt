@@ -4,12 +4,6 @@ use borrow.Author.Needs.{needs}
 use Rattle.walk_steps.proofs.answer_leads.Statement.{statement}
 use Rattle.walk_steps.proofs.answer_leads.Tie as tie
 
-flow-leads-requires : tie.Need-flow-leads-requires
-flow-leads-requires c κs = search needs
-
-stops-requires : tie.Need-stops-requires
-stops-requires c κs = search needs
-
 returns : tie.Need-returns
 returns c = simp (eq-eqb _ _ (c .before .if1 .taken)) (c .flow-leads .ensures)
 
@@ -17,4 +11,4 @@ returns-2 : tie.Need-returns-2
 returns-2 c = simp (ne-eqb _ _ (c .before .if1 .left)) (c .stops .ensures)
 
 pub answer-leads-spec : {M : Type 1} → statement M
-answer-leads-spec = tie.close (tie.spec flow-leads-requires stops-requires returns returns-2)
+answer-leads-spec = tie.close (tie.spec (search needs) (search needs) returns returns-2)

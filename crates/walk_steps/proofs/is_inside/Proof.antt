@@ -4,12 +4,6 @@ use borrow.Author.Needs.{needs}
 use Rattle.walk_steps.proofs.is_inside.Statement.{statement}
 use Rattle.walk_steps.proofs.is_inside.Tie as tie
 
-place-of-requires : tie.Need-place-of-requires
-place-of-requires c κs = search needs
-
-cast-result : tie.Need-cast-result
-cast-result c = search needs
-
 returns : tie.Need-returns
 returns c = simp (le-leb _ _ (c .before .before .if1 .taken), c .before .place-of .ensures)
 
@@ -17,4 +11,4 @@ returns-2 : tie.Need-returns-2
 returns-2 c = simp (lt-leb _ _ (c .if1 .left))
 
 pub is-inside-spec : {M : Type 1} → statement M
-is-inside-spec = tie.close (tie.spec place-of-requires cast-result returns returns-2)
+is-inside-spec = tie.close (tie.spec (search needs) (search needs) returns returns-2)

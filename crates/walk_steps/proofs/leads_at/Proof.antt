@@ -6,14 +6,9 @@ use borrow.Author.Needs.{needs}
 use Rattle.walk_steps.proofs.leads_at.Statement.{statement}
 use Rattle.walk_steps.proofs.leads_at.Tie as tie
 
-read-requires : tie.Need-read-requires
-read-requires c κs = search needs
-
-here-leads-requires : tie.Need-here-leads-requires
-here-leads-requires c κs = search needs
-
 returns : tie.Need-returns
 returns c = unfold leadsAt in c .here-leads .ensures ∙ ap (λ (x : Step). hereLeads (x .here)) (c .before .read .ensures)
 
 pub leads-at-spec : {M : Type 1} → statement M
-leads-at-spec = tie.close (tie.spec read-requires here-leads-requires returns)
+leads-at-spec = tie.close (tie.spec
+    (λ c κs. search needs) (λ c κs. search needs) returns)
