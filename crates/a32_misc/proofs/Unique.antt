@@ -1,7 +1,8 @@
 -- No second result fits a contract. Each line is about the contract itself, as the check reads it from the source.
 -- Assumes nothing.
-use mathlib.Core.Path.{_≡_, _∙_, sym}
+use mathlib.Core.Path.{_∙_, sym}
+use Rattle.word.specs.Only.{Only}
 use Rattle.a32_misc.proofs.misc.Reads as misc
 
-pub misc-only : (κs : _) (a : _) (r r′ : _) (s s′ : _) → misc.Post κs a r s → misc.Post κs a r′ s′ → r ≡ r′
+pub misc-only : Only misc.Post
 misc-only κs a r r′ s s′ p q = p ∙ sym q

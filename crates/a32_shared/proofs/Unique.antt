@@ -1,6 +1,7 @@
 -- No second result fits a contract. Each line is about the contract itself, as the check reads it from the source.
 -- Assumes nothing.
-use mathlib.Core.Path.{_≡_, _∙_, sym}
+use mathlib.Core.Path.{_∙_, sym}
+use Rattle.word.specs.Only.{Only}
 use Rattle.a32_shared.proofs.reg.Reads as reg
 use Rattle.a32_shared.proofs.reg_at.Reads as reg-at
 use Rattle.a32_shared.proofs.op_at.Reads as op-at
@@ -23,65 +24,65 @@ use Rattle.a32_shared.proofs.is_rrx.Reads as is-rrx
 use Rattle.a32_shared.proofs.shifted.Reads as shifted
 use Rattle.a32_shared.proofs.shift_by_reg.Reads as shift-by-reg
 
-pub reg-only : (κs : _) (a : _) (r r′ : _) (s s′ : _) → reg.Post κs a r s → reg.Post κs a r′ s′ → r ≡ r′
+pub reg-only : Only reg.Post
 reg-only κs a r r′ s s′ p q = p ∙ sym q
 
-pub reg-at-only : (κs : _) (a : _) (r r′ : _) (s s′ : _) → reg-at.Post κs a r s → reg-at.Post κs a r′ s′ → r ≡ r′
+pub reg-at-only : Only reg-at.Post
 reg-at-only κs a r r′ s s′ p q = p ∙ sym q
 
-pub op-at-only : (κs : _) (a : _) (r r′ : _) (s s′ : _) → op-at.Post κs a r s → op-at.Post κs a r′ s′ → r ≡ r′
+pub op-at-only : Only op-at.Post
 op-at-only κs a r r′ s s′ p q = p ∙ sym q
 
-pub cond-of-only : (κs : _) (a : _) (r r′ : _) (s s′ : _) → cond-of.Post κs a r s → cond-of.Post κs a r′ s′ → r ≡ r′
+pub cond-of-only : Only cond-of.Post
 cond-of-only κs a r r′ s s′ p q = p ∙ sym q
 
-pub count-only : (κs : _) (a : _) (r r′ : _) (s s′ : _) → count.Post κs a r s → count.Post κs a r′ s′ → r ≡ r′
+pub count-only : Only count.Post
 count-only κs a r r′ s s′ p q = p ∙ sym q
 
-pub signed-count-only : (κs : _) (a : _) (r r′ : _) (s s′ : _) → signed-count.Post κs a r s → signed-count.Post κs a r′ s′ → r ≡ r′
+pub signed-count-only : Only signed-count.Post
 signed-count-only κs a r r′ s s′ p q = p ∙ sym q
 
-pub status-mask-only : (κs : _) (a : _) (r r′ : _) (s s′ : _) → status-mask.Post κs a r s → status-mask.Post κs a r′ s′ → r ≡ r′
+pub status-mask-only : Only status-mask.Post
 status-mask-only κs a r r′ s s′ p q = p ∙ sym q
 
-pub pc-write-only : (κs : _) (a : _) (r r′ : _) (s s′ : _) → pc-write.Post κs a r s → pc-write.Post κs a r′ s′ → r ≡ r′
+pub pc-write-only : Only pc-write.Post
 pc-write-only κs a r r′ s s′ p q = p ∙ sym q
 
-pub by-s-only : (κs : _) (a : _) (r r′ : _) (s s′ : _) → by-s.Post κs a r s → by-s.Post κs a r′ s′ → r ≡ r′
+pub by-s-only : Only by-s.Post
 by-s-only κs a r r′ s s′ p q = p ∙ sym q
 
-pub at-only : (κs : _) (a : _) (r r′ : _) (s s′ : _) → at.Post κs a r s → at.Post κs a r′ s′ → r ≡ r′
+pub at-only : Only at.Post
 at-only κs a r r′ s s′ p q = p ∙ sym q
 
-pub one-only : (κs : _) (a : _) (r r′ : _) (s s′ : _) → one.Post κs a r s → one.Post κs a r′ s′ → r ≡ r′
+pub one-only : Only one.Post
 one-only κs a r r′ s s′ p q = p ∙ sym q
 
-pub two-only : (κs : _) (a : _) (r r′ : _) (s s′ : _) → two.Post κs a r s → two.Post κs a r′ s′ → r ≡ r′
+pub two-only : Only two.Post
 two-only κs a r r′ s s′ p q = p ∙ sym q
 
-pub three-only : (κs : _) (a : _) (r r′ : _) (s s′ : _) → three.Post κs a r s → three.Post κs a r′ s′ → r ≡ r′
+pub three-only : Only three.Post
 three-only κs a r r′ s s′ p q = p ∙ sym q
 
-pub four-only : (κs : _) (a : _) (r r′ : _) (s s′ : _) → four.Post κs a r s → four.Post κs a r′ s′ → r ≡ r′
+pub four-only : Only four.Post
 four-only κs a r r′ s s′ p q = p ∙ sym q
 
-pub shift-kind-only : (κs : _) (a : _) (r r′ : _) (s s′ : _) → shift-kind.Post κs a r s → shift-kind.Post κs a r′ s′ → r ≡ r′
+pub shift-kind-only : Only shift-kind.Post
 shift-kind-only κs a r r′ s s′ p q = p ∙ sym q
 
-pub shift-amount-only : (κs : _) (a : _) (r r′ : _) (s s′ : _) → shift-amount.Post κs a r s → shift-amount.Post κs a r′ s′ → r ≡ r′
+pub shift-amount-only : Only shift-amount.Post
 shift-amount-only κs a r r′ s s′ p q = p ∙ sym q
 
-pub decode-shift-only : (κs : _) (a : _) (r r′ : _) (s s′ : _) → decode-shift.Post κs a r s → decode-shift.Post κs a r′ s′ → r ≡ r′
+pub decode-shift-only : Only decode-shift.Post
 decode-shift-only κs a r r′ s s′ p q = p ∙ sym q
 
-pub is-plain-only : (κs : _) (a : _) (r r′ : _) (s s′ : _) → is-plain.Post κs a r s → is-plain.Post κs a r′ s′ → r ≡ r′
+pub is-plain-only : Only is-plain.Post
 is-plain-only κs a r r′ s s′ p q = p ∙ sym q
 
-pub is-rrx-only : (κs : _) (a : _) (r r′ : _) (s s′ : _) → is-rrx.Post κs a r s → is-rrx.Post κs a r′ s′ → r ≡ r′
+pub is-rrx-only : Only is-rrx.Post
 is-rrx-only κs a r r′ s s′ p q = p ∙ sym q
 
-pub shifted-only : (κs : _) (a : _) (r r′ : _) (s s′ : _) → shifted.Post κs a r s → shifted.Post κs a r′ s′ → r ≡ r′
+pub shifted-only : Only shifted.Post
 shifted-only κs a r r′ s s′ p q = p ∙ sym q
 
-pub shift-by-reg-only : (κs : _) (a : _) (r r′ : _) (s s′ : _) → shift-by-reg.Post κs a r s → shift-by-reg.Post κs a r′ s′ → r ≡ r′
+pub shift-by-reg-only : Only shift-by-reg.Post
 shift-by-reg-only κs a r r′ s s′ p q = p ∙ sym q

@@ -1,6 +1,7 @@
 -- No second result fits a contract. Each line is about the contract itself, as the check reads it from the source.
 -- Assumes nothing.
-use mathlib.Core.Path.{_≡_, _∙_, sym}
+use mathlib.Core.Path.{_∙_, sym}
+use Rattle.word.specs.Only.{Only}
 use Rattle.insn.proofs.Reg.new.Reads as reg-new
 use Rattle.insn.proofs.Reg.is_sp.Reads as is-sp
 use Rattle.insn.proofs.Reg.is_lr.Reads as is-lr
@@ -19,53 +20,53 @@ use Rattle.insn.proofs.Insn.with.Reads as with
 use Rattle.insn.proofs.Insn.accept.Reads as accept
 use Rattle.insn.proofs.refuse.Reads as refuse
 
-pub reg-new-only : (κs : _) (a : _) (r r′ : _) (s s′ : _) → reg-new.Post κs a r s → reg-new.Post κs a r′ s′ → r ≡ r′
+pub reg-new-only : Only reg-new.Post
 reg-new-only κs a r r′ s s′ p q = p ∙ sym q
 
-pub is-sp-only : (κs : _) (a : _) (r r′ : _) (s s′ : _) → is-sp.Post κs a r s → is-sp.Post κs a r′ s′ → r ≡ r′
+pub is-sp-only : Only is-sp.Post
 is-sp-only κs a r r′ s s′ p q = p ∙ sym q
 
-pub is-lr-only : (κs : _) (a : _) (r r′ : _) (s s′ : _) → is-lr.Post κs a r s → is-lr.Post κs a r′ s′ → r ≡ r′
+pub is-lr-only : Only is-lr.Post
 is-lr-only κs a r r′ s s′ p q = p ∙ sym q
 
-pub is-pc-only : (κs : _) (a : _) (r r′ : _) (s s′ : _) → is-pc.Post κs a r s → is-pc.Post κs a r′ s′ → r ≡ r′
+pub is-pc-only : Only is-pc.Post
 is-pc-only κs a r r′ s s′ p q = p ∙ sym q
 
-pub cond-new-only : (κs : _) (a : _) (r r′ : _) (s s′ : _) → cond-new.Post κs a r s → cond-new.Post κs a r′ s′ → r ≡ r′
+pub cond-new-only : Only cond-new.Post
 cond-new-only κs a r r′ s s′ p q = p ∙ sym q
 
-pub is-al-only : (κs : _) (a : _) (r r′ : _) (s s′ : _) → is-al.Post κs a r s → is-al.Post κs a r′ s′ → r ≡ r′
+pub is-al-only : Only is-al.Post
 is-al-only κs a r r′ s s′ p q = p ∙ sym q
 
-pub shift-number-only : (κs : _) (a : _) (r r′ : _) (s s′ : _) → shift-number.Post κs a r s → shift-number.Post κs a r′ s′ → r ≡ r′
+pub shift-number-only : Only shift-number.Post
 shift-number-only κs a r r′ s s′ p q = p ∙ sym q
 
-pub status-number-only : (κs : _) (a : _) (r r′ : _) (s s′ : _) → status-number.Post κs a r s → status-number.Post κs a r′ s′ → r ≡ r′
+pub status-number-only : Only status-number.Post
 status-number-only κs a r r′ s s′ p q = p ∙ sym q
 
-pub addrmode-number-only : (κs : _) (a : _) (r r′ : _) (s s′ : _) → addrmode-number.Post κs a r s → addrmode-number.Post κs a r′ s′ → r ≡ r′
+pub addrmode-number-only : Only addrmode-number.Post
 addrmode-number-only κs a r r′ s s′ p q = p ∙ sym q
 
-pub base-disp-only : (κs : _) (a : _) (r r′ : _) (s s′ : _) → base-disp.Post κs a r s → base-disp.Post κs a r′ s′ → r ≡ r′
+pub base-disp-only : Only base-disp.Post
 base-disp-only κs a r r′ s s′ p q = p ∙ sym q
 
-pub operand-number-only : (κs : _) (a : _) (r r′ : _) (s s′ : _) → operand-number.Post κs a r s → operand-number.Post κs a r′ s′ → r ≡ r′
+pub operand-number-only : Only operand-number.Post
 operand-number-only κs a r r′ s s′ p q = p ∙ sym q
 
-pub flow-number-only : (κs : _) (a : _) (r r′ : _) (s s′ : _) → flow-number.Post κs a r s → flow-number.Post κs a r′ s′ → r ≡ r′
+pub flow-number-only : Only flow-number.Post
 flow-number-only κs a r r′ s s′ p q = p ∙ sym q
 
-pub target-only : (κs : _) (a : _) (r r′ : _) (s s′ : _) → target.Post κs a r s → target.Post κs a r′ s′ → r ≡ r′
+pub target-only : Only target.Post
 target-only κs a r r′ s s′ p q = p ∙ sym q
 
-pub insn-new-only : (κs : _) (a : _) (r r′ : _) (s s′ : _) → insn-new.Post κs a r s → insn-new.Post κs a r′ s′ → r ≡ r′
+pub insn-new-only : Only insn-new.Post
 insn-new-only κs a r r′ s s′ p q = p ∙ sym q
 
-pub with-only : (κs : _) (a : _) (r r′ : _) (s s′ : _) → with.Post κs a r s → with.Post κs a r′ s′ → r ≡ r′
+pub with-only : Only with.Post
 with-only κs a r r′ s s′ p q = p ∙ sym q
 
-pub accept-only : (κs : _) (a : _) (r r′ : _) (s s′ : _) → accept.Post κs a r s → accept.Post κs a r′ s′ → r ≡ r′
+pub accept-only : Only accept.Post
 accept-only κs a r r′ s s′ p q = p ∙ sym q
 
-pub refuse-only : (κs : _) (a : _) (r r′ : _) (s s′ : _) → refuse.Post κs a r s → refuse.Post κs a r′ s′ → r ≡ r′
+pub refuse-only : Only refuse.Post
 refuse-only κs a r r′ s s′ p q = p ∙ sym q

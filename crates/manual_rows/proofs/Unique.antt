@@ -1,12 +1,13 @@
 -- No second result fits a contract, and a result tells the row. Each line is about the contract itself, as the check reads it from the
 -- source. Assumes nothing.
 use mathlib.Core.Path.{_≡_, _∙_, sym}
+use Rattle.word.specs.Only.{Only}
 use Rattle.manual.specs.A8.{rowOf}
 use Rattle.manual_tables.specs.Titles.{titleAt}
 use Rattle.manual_rows.specs.Told.{title-is}
 use Rattle.manual_rows.proofs.brassdozen_manual_row.Reads as row
 
-pub row-only : (κs : _) (a : _) (r r′ : _) (s s′ : _) → row.Post κs a r s → row.Post κs a r′ s′ → r ≡ r′
+pub row-only : Only row.Post
 row-only κs a r r′ s s′ p q = p .number ∙ sym (q .number)
 
 -- each word's row is in the list of titles

@@ -11,22 +11,23 @@ use ghost.Atoms.{Atoms}
 use prog.Memory.{Memory}
 use prog.Routine.{Routine}
 use prog.Wp.{Heap}
+use Rattle.word.specs.Only.{Only}
 use Rattle.section.proofs.open.Reads as opening
 use Rattle.section.proofs.is_end.Reads as is-end
 use Rattle.section.proofs.next as next
 use Rattle.section.proofs.read as read
 
-pub open-only : (κs : _) (a : _) (r r′ : _) (s s′ : _) → opening.Post κs a r s → opening.Post κs a r′ s′ → r ≡ r′
+pub open-only : Only opening.Post
 open-only κs a r r′ s s′ p q = p ∙ sym q
 
-pub is-end-only : (κs : _) (a : _) (r r′ : _) (s s′ : _) → is-end.Post κs a r s → is-end.Post κs a r′ s′ → r ≡ r′
+pub is-end-only : Only is-end.Post
 is-end-only κs a r r′ s s′ p q = p ∙ sym q
 
 -- The contracts over a reader are read by no `Post`: of them it is said in the logic, for each of its models, that the
 -- clauses of two results give their equality.
 module _ {M : Type 1} (𝓤 : URA M) where
-  abbrev pub Only : (T : Ended) → Clauses 𝓤 T → Type 1
-  Only T c =
+  abbrev pub OnlyOf : (T : Ended) → Clauses 𝓤 T → Type 1
+  OnlyOf T c =
       (κs : Lfts (T .signature .lifetimes)) (a : Args (T .signature) κs) (g : c κs a .ghost) (r r′ : Res (T .signature) κs) (s s′ : AtExit T κs)
       → ent 𝓤 (sep 𝓤 (c κs a .ensures g r s) (c κs a .ensures g r′ s′)) (fact 𝓤 (r ≡ r′))
 
@@ -39,8 +40,8 @@ module _ {M : Type 1} (𝓤 : URA M) where
       factI 𝓤 (r ≡ r′) (sep 𝓤 one other) (p ∙ sym q)))
 
   module _ (H : Heap 𝓤) (A : Atoms 𝓤) (mem : Memory → SProp 𝓤) (run : Routine → Fun 𝓤) where
-    pub next-only : Only next.ended (next.clauses 𝓤 H A mem run)
+    pub next-only : OnlyOf next.ended (next.clauses 𝓤 H A mem run)
     next-only κs a g r r′ s s′ = fixed _ r r′
 
-    pub read-only : Only read.ended (read.clauses 𝓤 H A mem run)
+    pub read-only : OnlyOf read.ended (read.clauses 𝓤 H A mem run)
     read-only κs a g r r′ s s′ = fixed _ r r′
