@@ -53,6 +53,7 @@ fn run(arguments: &[String]) -> Result<(), String> {
     texts(&inputs);
     others(&inputs[2]);
     listings(&inputs[2]);
+    walks();
     process::processes(commands)
 }
 
@@ -195,16 +196,7 @@ fn listings(input: &Words) {
     let mut out = vec![0; 393_280];
     for count in [1, 4, 16, 64, 256, 1024, 4096] {
         let section = section(&input.words[..count]);
-        let rounds = 200_000 / count;
-        let best = (0..7)
-            .map(|_| {
-                seconds(|| {
-                    for _ in 0..rounds {
-                        std::hint::black_box(proved::listed(&section, &mut out));
-                    }
-                }) / rounds as f64
-            })
-            .fold(f64::INFINITY, f64::min);
+        let best = best_of(count, || proved::listed(&section, &mut out));
         println!(
             "| {count} words | {:.2} | {:.1} |",
             best * 1e6,
@@ -212,6 +204,54 @@ fn listings(input: &Words) {
         );
     }
     println!();
+}
+
+/// Walks from the first word, by the number of words reached: in a line, and where each word is a branch to the farthest place that is left.
+fn walks() {
+    println!("| walk, ns a word reached | in a line | each a branch |");
+    println!("|---|---:|---:|");
+    let mut records = Box::new([0; proved::REPORT]);
+    for count in [16, 64, 256, 1024, 4096] {
+        let [line, branches] = [in_a_line(count), each_a_branch(count)].map(|words| {
+            let section = section(&words);
+            assert_eq!(proved::walked(&section, &mut records), count);
+            best_of(count, || proved::walked(&section, &mut records)) * 1e9 / count as f64
+        });
+        println!("| {count} words | {line:.1} | {branches:.1} |");
+    }
+    println!();
+}
+
+/// `mov r0 r0`, and a return.
+fn in_a_line(count: usize) -> Vec<u32> {
+    let mut words = vec![0xe1a0_0000; count];
+    words[count - 1] = 0xe12f_ff1e;
+    words
+}
+
+/// The first place leads to the last, that to the second, that to the last but one, and so on to the middle, which leads back to the first.
+fn each_a_branch(count: usize) -> Vec<u32> {
+    let order: Vec<usize> = (0..count / 2).flat_map(|n| [n, count - 1 - n]).collect();
+    let mut words = vec![0; count];
+    for (n, &place) in order.iter().enumerate() {
+        let to = order[(n + 1) % count];
+        words[place] = 0xea00_0000 | (to as u32).wrapping_sub(place as u32 + 2) & 0x00ff_ffff;
+    }
+    words
+}
+
+/// The seconds that a call takes over `count` words, the best of seven rounds of many calls.
+fn best_of(count: usize, mut call: impl FnMut() -> usize) -> f64 {
+    let calls = 200_000 / count;
+    (0..7)
+        .map(|_| {
+            seconds(|| {
+                for _ in 0..calls {
+                    std::hint::black_box(call());
+                }
+            }) / calls as f64
+        })
+        .fold(f64::INFINITY, f64::min)
 }
 
 /// The section of these words.

@@ -14,6 +14,13 @@ mod linked {
             out: *mut u8,
             room: usize,
         ) -> u64;
+        pub fn brassdozen_walk(
+            section: *const u8,
+            bytes: usize,
+            entry: u32,
+            records: *mut u32,
+            room: usize,
+        ) -> u64;
     }
 }
 
@@ -49,6 +56,24 @@ pub fn listed(section: &[u8], out: &mut [u8]) -> usize {
     length(unsafe {
         linked::brassdozen_listing(section.as_ptr(), section.len(), out.as_mut_ptr(), out.len())
     })
+}
+
+/// How many numbers take the report of every walk.
+pub const REPORT: usize = 49_152;
+
+/// How many words a walk through a section from its first word reaches. Its report is written to the start of `records`.
+pub fn walked(section: &[u8], records: &mut [u32; REPORT]) -> usize {
+    // Safety: as above.
+    let given = unsafe {
+        linked::brassdozen_walk(
+            section.as_ptr(),
+            section.len(),
+            0,
+            records.as_mut_ptr(),
+            records.len(),
+        )
+    };
+    (given >> 16) as u16 as usize
 }
 
 /// A text's length, without the refusal's number above it.

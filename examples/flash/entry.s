@@ -19,6 +19,7 @@ irq_restore:
         bx      lr
 
 @ Leaves the watchdog its key and jumps to the ROM.
+        .ifndef INSIDE
         .global leave_to_rom
         .type   leave_to_rom, %function
 leave_to_rom:
@@ -29,3 +30,4 @@ leave_to_rom:
         dsb     sy
         b       rom_reset
         .ltorg
+        .endif

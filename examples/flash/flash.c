@@ -26,8 +26,10 @@ RAMCODE static int settled(volatile uint16_t *at, uint16_t value)
             return FLASH_OK;
         if ((now & GAVE_UP) != 0 && *at != value)
             break;
+#ifndef INSIDE
         if (left % 4096 == 0)
             rom_watchdog();
+#endif
     }
     *flash_base = RESET;
     return FLASH_FAILED;
