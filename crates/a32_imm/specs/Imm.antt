@@ -41,6 +41,15 @@ noneBelow (suc r) v = both (not (ltb (turnedLeft v (2 * r)) 256)) (noneBelow r v
 unfoldable pub leastOf : ℕ → Bool
 leastOf imm12 = noneBelow (rotationOf imm12) (soImmOf imm12)
 
+-- the field with the least of n rotations from r on that gives v with a byte
+abbrev pub leastFrom : ℕ → ℕ → ℕ → ℕ
+leastFrom zero r v = 0
+leastFrom (suc n) r v = pick (ltb (turnedLeft v (2 * r)) 256) (256 * r + turnedLeft v (2 * r)) (leastFrom n (suc r) v)
+
+-- "The table holds, for each twelve-bit field, the field with the least rotation that gives its value" (02, P8; `field-least` says that it is that)
+unfoldable pub leastField : ℕ → ℕ
+leastField imm12 = leastFrom 16 0 (soImmOf imm12)
+
 -- "One count is signed 32-bit, except unsigned for msr and for mov to 15"
 abbrev pub countOf : Bool → ℕ → ℤ
 countOf unsigned v = pick unsigned (pos v) (signed v)

@@ -1,3 +1,4 @@
 pub mod Imm
 pub mod Least
 pub mod Closed
+pub mod Table

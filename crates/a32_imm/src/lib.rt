@@ -1,13 +1,15 @@
 //! The rotated immediates, mod.rs's `so_imm` and `so_imm_ops`.
+mod table;
+
 use a32_shared::count;
 use a32_shared::signed_count;
 use insn::Insn;
 use insn::Operand;
+use table::least_field;
 use word::bits;
 ghost use mathlib.Core.Path.{_≡_};
 ghost use Prim.Native.Nat.{_<_};
 ghost use Rattle.a32_imm.specs.Imm.{soImmOf, leastOf, countOf, immFilled};
-ghost use Rattle.a32_imm.specs.Closed.{turnedOf};
 
 /// The A32 modified immediate: an eight-bit value rotated right by twice the four-bit field above it.
 pub fn so_imm(imm12: u32) -> u32
@@ -19,28 +21,12 @@ pub fn so_imm(imm12: u32) -> u32
     (wide / 0x1_0000_0000 + wide % 0x1_0000_0000) as u32
 }
 
-/// Whether no smaller rotation can name the value of `imm12`.
+/// Whether no smaller rotation can name the value of `imm12`: its entry names itself.
 pub fn is_least(imm12: u32) -> bool
     requires { ⌜ imm12 < 4096 ⌝ }
     ensures { λ r. ⌜ r ≡ leastOf imm12 ⌝ }
 {
-    let byte = bits(imm12, 7, 0);
-    let rotation = bits(imm12, 11, 8);
-    match rotation {
-        0 => true,
-        // turned nearly all the way round, a small byte is a larger one, unturned
-        13 => is_turned(byte, 4),
-        14 => is_turned(byte, 16),
-        15 => is_turned(byte, 64),
-        _ => is_turned(byte, 1),
-    }
-}
-
-/// A byte with two low zeros is its quarter, turned by one step less; one below `least` is as good as unturned.
-fn is_turned(byte: u32, least: u32) -> bool
-    ensures { λ r. ⌜ r ≡ turnedOf byte least ⌝ }
-{
-    if byte % 4 == 0 { false } else { least <= byte }
+    least_field(imm12) as u32 == imm12
 }
 
 /// The value as one count. It is signed except where a listing would rather read the bit pattern.

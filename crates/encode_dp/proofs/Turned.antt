@@ -5,8 +5,7 @@ use native.Mathlib.Nat.{one-mul, mod-eq-of-lt, mod-lt}
 use native.Mathlib.Omega.{arith}
 use borrow.Author.Tests.{lt-ltb, le-ltb}
 use lib.Pow.{pow-lt, pow-pos, shl-lt, shl-exact, shr-shr, shr-le}
-use Rattle.a32_imm.specs.Imm.{turnedLeft}
-use Rattle.encode_home.specs.WordDp.{leastFrom}
+use Rattle.a32_imm.specs.Imm.{turnedLeft, leastFrom}
 
 pub one-shifted : (k : ℕ) → k < 64 → (1 * 2 ^ k) % 2 ^ 64 ≡ 2 ^ k
 one-shifted k h = rw one-mul (mod-eq-of-lt (pow-lt h))

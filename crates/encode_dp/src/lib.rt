@@ -22,7 +22,7 @@ ghost use lib.Dec.{eqb, leb};
 ghost use Rattle.insn.specs.Roots.{name};
 ghost use Rattle.word.specs.Choice.{pick, both};
 ghost use Rattle.word.specs.Layout.{join};
-ghost use Rattle.a32_imm.specs.Imm.{turnedLeft};
+ghost use Rattle.a32_imm.specs.Imm.{turnedLeft, leastFrom};
 ghost use Rattle.insn_parts.specs.Parts as P;
 ghost use Rattle.encode_home.specs.WordDp as W;
 
@@ -66,7 +66,7 @@ fn turned_left(v: u64, n: u64) -> u64
 
 /// The field with the least rotation that gives `v`.
 fn least(v: u64) -> u64
-    ensures { λ r. ⌜ r ≡ W.leastFrom 16 0 v ⌝ }
+    ensures { λ r. ⌜ r ≡ leastFrom 16 0 v ⌝ }
 {
     let mut r: u64 = 0;
     while r < 16 {

@@ -1,9 +1,10 @@
 -- The immediates, back from their counts: one test over all 4,096 fields. Assumes nothing.
-use mathlib.Core.Path.{_≡_, refl, _∙_, subst}
-use mathlib.Core.Bool.{Bool, true, false, not}
+use mathlib.Core.Path.{_≡_, refl, _∙_}
+use mathlib.Core.Bool.{Bool, true, false}
 use Prim.Native.Nat.{ℕ, zero, suc, _+_, _-_, _*_, _/_, _^_, _<_}
 use native.Mathlib.Omega.{arith}
-use lib.Dec.{T, eqb, ltb, eqb→eq}
+use borrow.Author.Tests.{eqb-true}
+use lib.Dec.{eqb, ltb, eqb→eq}
 use lib.IntN.{ℤ, pos, natAbs}
 use Rattle.word.specs.Choice.{by-test}
 use Rattle.word.specs.Every.{at-each}
@@ -11,25 +12,15 @@ use Rattle.word.specs.Field.{field}
 use Rattle.word.specs.Signed.{minus}
 use Rattle.insn.specs.declared.Operand.the-variants.{Empty, Count}
 use Rattle.a32_imm.specs.Closed.{value-fits}
-use Rattle.a32_imm.specs.Imm.{byteOf, rotationOf, soImmOf, leastOf, countOf}
+use Rattle.a32_imm.specs.Imm.{byteOf, rotationOf, soImmOf, leastOf, leastField, countOf}
+use Rattle.a32_imm.specs.Least.{names-itself}
 use Rattle.insn_parts.specs.Operands.{signNumber, operandFlat}
 use Rattle.insn_parts.specs.Parts.{bits32}
-use Rattle.encode_home.specs.WordDp.{leastFrom, imm12}
-
--- where the first test passes, so does the second
-abbrev implies : Bool → Bool → Bool
-implies true b = b
-implies false b = true
-
-implied : (a b : Bool) → a ≡ true → T (implies a b) → T b
-implied true b e t = t
-implied false b e t = absurd (subst (λ (x : Bool). T (not x)) e tt)
+use Rattle.encode_home.specs.WordDp.{imm12}
 
 module _ (x : ℕ) (few : x < 4096) where
-  least-back : leastOf x ≡ true → leastFrom 16 0 (soImmOf x) ≡ x
-  least-back least = unfold field soImmOf leastOf in
-      eqb→eq (leastFrom 16 0 (soImmOf x)) x
-      (implied (leastOf x) _ least (at-each (λ n. implies (leastOf n) (eqb (leastFrom 16 0 (soImmOf n)) n)) 4096 tt x few))
+  least-back : leastOf x ≡ true → leastField x ≡ x
+  least-back least = eqb-true (leastField x) x (names-itself x few ∙ least)
 
   pub imm-two : imm12 (operandFlat (Count (pos (byteOf x)))) (operandFlat (Count (pos (2 * rotationOf x)))) ≡ x
   unfolding field imm12
@@ -54,4 +45,4 @@ module _ (x : ℕ) (few : x < 4096) where
       back = omega arith
 
   pub imm-one : (unsigned : Bool) → leastOf x ≡ true → imm12 (operandFlat (Count (countOf unsigned (soImmOf x)))) (operandFlat Empty) ≡ x
-  imm-one unsigned least = unfold imm12 in rw (count-back unsigned (soImmOf x) (value-fits x few)) (least-back least)
+  imm-one unsigned least = unfold imm12 leastField in rw (count-back unsigned (soImmOf x) (value-fits x few)) (least-back least)

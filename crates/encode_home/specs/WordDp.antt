@@ -1,12 +1,12 @@
 -- The word of a data processing instruction, from its answer.
 use mathlib.Core.Bool.{Bool, true, false}
 use mathlib.Core.List.{List, [], _∷_}
-use Prim.Native.Nat.{ℕ, zero, suc, _+_, _-_, _*_, _/_, _%_}
+use Prim.Native.Nat.{ℕ, _+_, _-_, _*_, _/_, _%_}
 use lib.Dec.{eqb, leb, ltb}
 use lib.ListN.{getD}
 use Rattle.word.specs.Choice.{pick, both}
 use Rattle.word.specs.Layout.{join}
-use Rattle.a32_imm.specs.Imm.{turnedLeft}
+use Rattle.a32_imm.specs.Imm.{leastFrom}
 use Rattle.insn.specs.Roots.{name}
 use Rattle.insn.specs.declared.Flow.{Flow}
 use Rattle.insn.specs.declared.Flow.the-variants.{Next, Branch, CondBranch, IndirectBranch, Call, IndirectCall, Return, Trap}
@@ -33,11 +33,6 @@ registerLayout = 4 ∷ 1 ∷ 2 ∷ 1 ∷ 4 ∷ []
 
 abbrev pub byRegister : ℕ → ℕ → ℕ → ℕ
 byRegister rm ty rs = join registerLayout (rm ∷ 1 ∷ ty ∷ 0 ∷ rs ∷ [])
-
--- the field with the least rotation below r, else at r, that gives v
-abbrev pub leastFrom : ℕ → ℕ → ℕ → ℕ
-leastFrom zero r v = 0
-leastFrom (suc n) r v = pick (ltb (turnedLeft v (2 * r)) 256) (256 * r + turnedLeft v (2 * r)) (leastFrom n (suc r) v)
 
 -- the immediate of one count or two
 unfoldable pub imm12 : Flat → Flat → ℕ

@@ -2,7 +2,7 @@
 use mathlib.Core.Path.{_≡_, refl, sym, _∙_}
 use Prim.Native.Nat.{_-_, _≤_}
 use native.Mathlib.Omega.{arith}
-use Rattle.encode_home.specs.WordDp.{leastFrom}
+use Rattle.a32_imm.specs.Imm.{leastFrom}
 use Rattle.encode_dp.proofs.Turned.{found, missed, none-left}
 use Rattle.encode_dp.proofs.least as f
 
