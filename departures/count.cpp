@@ -37,6 +37,7 @@ struct Departure {
 
 static const Rows pairs = {"LDRD (register)", "LDRD (immediate)", "LDRD (literal)", "STRD (register)", "STRD (immediate)"};
 static const Rows preloads = {"PLDW (immediate)", "PLD (immediate)", "PLD (literal)"};
+static const Rows coprocessor_transfers = {"STC", "LDC (immediate)", "LDC (literal)"};
 static const Rows undefined = {"UNDEFINED", "UNPREDICTABLE"};
 
 // in the order of `coverings`: the first that covers a word is its departure
@@ -79,6 +80,10 @@ static const std::vector<Departure> departures = {
     {"minus-zero", false, preloads, [](uint32_t w) { return !bit(w, 23) && field(w, 0, 12) == 0; }},
     {"preload-literal", false, {"UNPREDICTABLE"}, literal_pldw},
     {"barrier-bits", true, {"CLREX", "DSB", "DMB", "ISB"}, [](uint32_t w) { return field(w, 8, 12) != 0xff0; }},
+    {"unindexed", false, coprocessor_transfers, [](uint32_t w) { return !bit(w, 24) && !bit(w, 21); }},
+    {"literal-index", false, {"LDC (literal)"}, [](uint32_t w) { return bit(w, 21); }},
+    {"minus-zero", false, coprocessor_transfers, [](uint32_t w) { return !bit(w, 23) && field(w, 0, 8) == 0; }},
+    {"flags-15", false, {"MRC"}, to_pc},
 };
 
 struct Count {
@@ -101,7 +106,8 @@ int main() {
     for (auto [first, times] : std::vector<std::array<uint64_t, 2>>{{0x0, 14}, {0xe, 1}, {0xf, 1}})
         for (uint64_t i = 0; i < 1u << 28; i++) {
             const uint32_t w = first << 28 | i;
-            if (first != 15 && field(w, 26, 2) == 3) continue;
+            // coprocessors 10 and 11 are out of range
+            if (first != 15 && field(w, 26, 2) == 3 && field(w, 9, 3) == 5) continue;
             const size_t n = brassdozen_manual_row(w);
             const char *name = otherwise[n];
             bool refuses = name[0] != 'a';

@@ -19,7 +19,7 @@ extern "C" {
 
 /* The version of this header: 10,000 for each major one, 100 for each minor one, and one for each patch. The major one changes where what is
    here changes, a row or a function, and the minor one where something is added. */
-enum { BRASSDOZEN_VERSION = 20200 };
+enum { BRASSDOZEN_VERSION = 30000 };
 
 /* The version of the library that is linked. */
 uint32_t brassdozen_version(void);
@@ -27,7 +27,7 @@ uint32_t brassdozen_version(void);
 /* A refusal's number, or 0. */
 enum {
     BRASSDOZEN_SHORT = 1,          /* decoding bytes: fewer than four */
-    BRASSDOZEN_COPROCESSOR = 2,    /* decoding: condition below 15 and bits 27:26 = 11 */
+    BRASSDOZEN_COPROCESSOR = 2,    /* decoding: condition below 15, bits 27:26 = 11, coprocessor 10 or 11 */
     BRASSDOZEN_NO_ROW = 3,         /* decoding: any other word that names no instruction that is known here */
     BRASSDOZEN_NO_WORD = 4,        /* encoding: no word's answer has this row */
     BRASSDOZEN_BAD_MARK = 5,       /* a section: its mark is not RSX */
@@ -46,7 +46,7 @@ static inline unsigned brassdozen_refusal(uint64_t given) { return (unsigned)(gi
 static inline uint32_t brassdozen_result(uint64_t given) { return (uint32_t)given; }
 
 enum {
-    BRASSDOZEN_ROW = 49,         /* the numbers of a row */
+    BRASSDOZEN_ROW = 71,         /* the numbers of a row */
     BRASSDOZEN_LINE = 96,        /* no line has more bytes */
     BRASSDOZEN_LISTING = 393280, /* no listing has more bytes */
     BRASSDOZEN_SECTION = 16907,  /* no section that is accepted has more bytes */
@@ -60,14 +60,14 @@ enum {
     2  condition, bits 31:28 of the word
     3  flow: 0 next, 1 jump, 2 jump under a condition, 3 jump through a register, 4 call, 5 call through a register, 6 return, 7 trap
     4  where a jump or a call goes, or 0
-    5  four operands, of eleven numbers each, 0 where the kind has none:
+    5  six operands, of eleven numbers each, 0 where the kind has none:
 
     +0  kind: 0 none, 1 register, 2 shifted register, 3 shift by a register, 4 shift of a saturate, 5 rotation, 6 signed count,
         7 unsigned number, 8 status mask, 9 status register, 10 register that is written back, 11 list of registers, 12 address, 13 memory,
-        14 option of a barrier
+        14 option of a barrier, 15 coprocessor, 16 register of a coprocessor
     +1  register, or base
     +2  kind of a shift: 0 lsl, 1 lsr, 2 asr, 3 ror; or status register: 0 the application's, 1 the saved one; or 1 if memory has an index
-    +3  amount of a shift, of a rotation or of the index; or status mask; or option
+    +3  amount of a shift, of a rotation or of the index; or status mask; or option; or number of a coprocessor or of its register
     +4  1 if the count or displacement is negative
     +5  count or displacement, of a negative one its complement: -1 is 1 and 0; or number, list or address
     +6  index register
@@ -76,9 +76,9 @@ enum {
     +9  1 if the displacement reads in base ten
     +10 1 if a displacement of zero is subtracted */
 
-/* Decodes `word` at `address`. An accepted word's row is written to the first 49 numbers of `row`, and the result is 0. A word that is not
-   accepted is refused with 2 or 3, and else a row of `length` below 49 with 10. A refusal changes no number of `row`, and nothing changes one
-   after the 49. At one address, two accepted words have equal rows exactly if they have one home word. */
+/* Decodes `word` at `address`. An accepted word's row is written to the first 71 numbers of `row`, and the result is 0. A word that is not
+   accepted is refused with 2 or 3, and else a row of `length` below 71 with 10. A refusal changes no number of `row`, and nothing changes one
+   after the 71. At one address, two accepted words have equal rows exactly if they have one home word. */
 uint8_t brassdozen_decode(uint32_t word, uint64_t address, uint64_t *row, size_t length);
 
 /* Decodes the first four of `bytes`, low byte first, as brassdozen_decode does the word that they are; what is after them is not read. Fewer
@@ -86,7 +86,7 @@ uint8_t brassdozen_decode(uint32_t word, uint64_t address, uint64_t *row, size_t
 uint8_t brassdozen_decode_bytes(const uint8_t *bytes, size_t count, uint64_t address, uint64_t *row, size_t length);
 
 /* The home word of the words whose answer, at the address in the row, has this row; or 4, exactly if no word's has. Every number counts whole.
-   Of a row of another length the first 49 numbers are read: beyond its end there are zeros, and what is after the 49th is not read. A row
+   Of a row of another length the first 71 numbers are read: beyond its end there are zeros, and what is after the 71st is not read. A row
    that brassdozen_decode has written gives the home word of its word. */
 uint64_t brassdozen_encode(const uint64_t *row, size_t length);
 
@@ -94,10 +94,10 @@ uint64_t brassdozen_encode(const uint64_t *row, size_t length);
    or 3, as for decoding. Ones fill 19:8 of bx, bxj and blx to a register, 19:16 and 11:8 of clz, 15:12 of sdiv, udiv and msr, 19:16 of mrs,
    11:8 of the exclusives and 3:0 of their loads, and 3:0 of clrex; zeros fill all others, and 15:12 of an immediate msr with mask 0 and bit 22
    clear. Bit 23 is one where it is ignored: in a load or store in immediate offset mode, but for the extra ones, and in a preload, if 11:0
-   is 0. */
+   is 0, and in ldc and stc if 7:0 is 0. So is bit 21 in ldc and stc if bit 24 is clear. */
 uint64_t brassdozen_home(uint32_t word);
 
-/* The same two for tools that stored words with zeros in all of these bits but bit 23, which is one as above. They refuse what the others
+/* The same two for tools that stored words with zeros in all of these bits but bits 23 and 21, which are ones as above. They refuse what the others
    refuse, and a word's two home words have the same answer. */
 uint64_t brassdozen_encode_zeros(const uint64_t *row, size_t length);
 uint64_t brassdozen_home_zeros(uint32_t word);

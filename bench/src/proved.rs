@@ -27,7 +27,7 @@ mod linked {
 pub use linked::{brassdozen_home as homed, decoded, trip};
 
 /// How many numbers an instruction value is.
-pub const ROW: usize = 49;
+pub const ROW: usize = 71;
 
 /// An instruction value as the library's numbers.
 pub type Row = [u64; ROW];

@@ -39,7 +39,7 @@ int main(int argc, char **argv) {
     for (uint64_t i = 0; i < count; i++) {
         const uint32_t w = first + i;
         const uint16_t n = brassdozen_manual_row(w);
-        const std::string theirs = titleOf(disassembler->text(w));
+        const std::string theirs = titleOf(disassembler->text(w), w);
         if (all[n] == theirs)
             (disassembler->marked() ? marked : agree)[n].add(w);
         else

@@ -177,6 +177,22 @@ string access(const Line &l) {
     return name + (among(n, {"ldr", "str", "ldrb", "strb", "ldrh", "strh"}) ? " (immediate, ARM)" : " (immediate)");
 }
 
+// a load or a store of a coprocessor, by its base
+string transfer(const Line &l) {
+    if (starts(l.name, "stc")) return "STC";
+    for (view o : l.ops)
+        if (starts(o, "[")) return starts(o, "[pc") ? "LDC (literal)" : "LDC (immediate)";
+    return "?";
+}
+
+// a name under a condition, with 27:26 = 11
+string coprocessor(const Line &l) {
+    view n = l.name;
+    if (n[0] == 'v' || starts(n, "fldm") || starts(n, "fstm")) return floating;
+    if (among(n, {"ldc", "ldcl", "stc", "stcl"})) return transfer(l);
+    return among(n, {"mrc", "mcr", "cdp", "mrrc", "mcrr", "svc"}) ? upper(n) : own;
+}
+
 // names of ARMv8 and later
 bool later(view n) {
     for (view k : {"lda", "stl", "crc32", "aes", "sha1", "sha256"})
@@ -190,11 +206,12 @@ bool later(view n) {
 
 }
 
-std::string titleOf(const std::string &text) {
+std::string titleOf(const std::string &text, uint32_t w) {
     if (text.empty()) return "UNDEFINED";
-    Line l = split(text);
+    const Line l = split(text);
     view n = l.name;
     if (later(n)) return "ARMv8 " + upper(n.substr(0, n.find('.')));
+    if (w >> 28 < 15 && (w >> 26 & 3) == 3) return coprocessor(l);
     // binutils: e1a00000
     if (n == "nop" && l.note.find("(mov r0, r0)") != view::npos) return "MOV (register, ARM)";
     // LLVM: e7ffdefe
@@ -216,9 +233,8 @@ std::string titleOf(const std::string &text) {
     if (starts(n, "cps")) return "CPS";
     if (starts(n, "srs")) return "SRS";
     if (starts(n, "rfe")) return "RFE";
-    if (among(n, {"ldc2", "ldc2l"})) return "LDC, LDC2";
-    if (among(n, {"stc2", "stc2l"})) return "STC, STC2";
-    if (among(n, {"mcrr2", "mrrc2", "cdp2", "mcr2", "mrc2"})) return upper(n.substr(0, n.size() - 1)) + ", " + upper(n);
+    if (among(n, {"ldc2", "ldc2l"})) return "LDC2";
+    if (among(n, {"stc2", "stc2l"})) return "STC2";
     if (among(n.substr(0, 4), {"vld1", "vld2", "vld3", "vld4", "vst1", "vst2", "vst3", "vst4"})) return "Advanced SIMD load/store";
     if (n[0] == 'v') return "Advanced SIMD data-processing";
     return upper(n);

@@ -1,6 +1,7 @@
 #include "why.h"
 #include "row.h"
 #include "should.h"
+#include "title.h"
 #include <initializer_list>
 
 namespace {
@@ -37,6 +38,9 @@ bool isUnpredictable(const string &title, uint32_t w) {
     return false;
 }
 
+// a title of any coprocessor under a condition
+bool isGeneric(const string &title) { return among(title, {"STC", "LDC (immediate)", "LDC (literal)", "MCRR", "MRRC", "CDP", "MCR", "MRC"}); }
+
 }
 
 const char *why(const string &who, uint32_t w, const string &ours, const string &theirs) {
@@ -44,10 +48,16 @@ const char *why(const string &who, uint32_t w, const string &ours, const string 
     if (starts(theirs, "ARMv8 ")) return "later: ARMv8 names it";
     if (ours == "UNPREDICTABLE") return none ? "unpredictable: so the table says, they have none" : "unpredictable: so the table says, they name it";
     if (starts(ours, "Advanced SIMD") && none) return "space: chapter A7 tells its words apart";
-    if (among(ours, {"LDC, LDC2", "STC, STC2", "MCRR, MCRR2", "MRRC, MRRC2", "CDP, CDP2", "MCR, MCR2", "MRC, MRC2"}) && none) {
+    if (among(ours, {"LDC2", "STC2", "MCRR2", "MRRC2", "CDP2", "MCR2", "MRC2"}) && none) {
         if (bits(w, 11, 9) == 5) return "space: the page says UNDEFINED of coprocessors 10 and 11";
         if (bits(w, 11, 8) == 9) return "later: ARMv8 takes coprocessor 9 for half precision";
     }
+    if (isGeneric(ours)) {
+        if (bits(w, 11, 8) == 9 && (none || theirs == floating)) return "later: ARMv8 takes coprocessor 9 for half precision";
+        if (theirs == floating) return "later: ARMv8-M names it";
+        if (theirs == own) return "older: a name of one coprocessor alone";
+    }
+    if (ours == floating && isGeneric(theirs)) return "space: chapter A7 tells its words apart, they name them as any coprocessor's";
     // the same row with those bits mended, where they are asked too
     if (const uint32_t m = mended(ours, w); m != w && brassdozen_manual_row(m) == brassdozen_manual_row(w)) return none ? "should-be: they have none" : "should-be: they name another";
     if (isUnpredictable(ours, w)) return none ? "unpredictable: so the page says, they have none" : "unpredictable: so the page says, they name another";

@@ -24,7 +24,7 @@ pub struct Instruction {
 }
 
 /// How many operand places an instruction has.
-pub const PLACES: usize = 4;
+pub const PLACES: usize = 6;
 
 /// Where execution goes on, with the target where the word has it.
 #[derive(Debug, Clone, Copy, PartialEq, Eq)]
@@ -58,6 +58,8 @@ pub enum Operand {
     Address(u32),
     Memory(Memory),
     Option(u8),
+    Coprocessor(u8),
+    CoprocessorRegister(u8),
 }
 
 /// A memory form.
@@ -169,6 +171,8 @@ impl Operand {
             Operand::Address(address) => all(&[12, address.into()]),
             Operand::Memory(memory) => all(&memory.numbers()),
             Operand::Option(option) => all(&[14, option.into()]),
+            Operand::Coprocessor(number) => all(&[15, number.into()]),
+            Operand::CoprocessorRegister(number) => all(&[16, number.into()]),
         }
     }
 }

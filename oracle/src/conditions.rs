@@ -43,12 +43,11 @@ impl Display for Tally {
     }
 }
 
-/// Reads each word of a set under condition 14, and holds the words with the conditions below it beside it, all at `address`. Words with
-/// 27:26 = 11 are left out.
+/// Reads each word of a set under condition 14, and holds the words with the conditions below it beside it, all at `address`.
 pub fn conditions(proved: Proved, address: u64, blocks: &[Block]) -> (Tally, u64) {
     let exceptions = Reports::new();
     let tally = on_every_core(blocks, |_, block, tally: &mut Tally| {
-        for word in block.words().filter(|word| word >> 26 & 0b11 != 0b11) {
+        for word in block.words() {
             let word = word & 0x0fff_ffff;
             let mut read: Row = [0; ROW];
             let refusal = (proved.decode)(word | ALWAYS << 28, address, &mut read);

@@ -146,7 +146,9 @@ fn another_register(operand: &mut Operand, random: &mut Random) -> bool {
         Operand::Register(register)
         | Operand::Shifted { register, .. }
         | Operand::ShiftByRegister { register, .. }
-        | Operand::WriteBack(register) => *register = made::register(random),
+        | Operand::WriteBack(register)
+        | Operand::Coprocessor(register)
+        | Operand::CoprocessorRegister(register) => *register = made::register(random),
         Operand::List(list) => *list ^= 1 << random.below(16),
         Operand::Memory(memory) => match &mut memory.index {
             Some(index) if random.coin() => index.register = made::register(random),
@@ -267,6 +269,12 @@ fn number_off(operand: &mut Operand, random: &mut Random) -> bool {
     let by = random.pick(&[1, -1]);
     match operand {
         Operand::Count(count) if random.one_in(3) => *operand = Operand::Number(*count as u32),
+        Operand::Coprocessor(number) if random.one_in(3) => {
+            *operand = Operand::CoprocessorRegister(*number);
+        }
+        Operand::CoprocessorRegister(number) if random.one_in(3) => {
+            *operand = Operand::Register(*number);
+        }
         Operand::Number(number) if random.one_in(3) => {
             *operand = Operand::Count((*number).into());
         }
@@ -276,7 +284,9 @@ fn number_off(operand: &mut Operand, random: &mut Random) -> bool {
         | Operand::SaturateShift { amount, .. }
         | Operand::Rotate(amount)
         | Operand::StatusMask(amount)
-        | Operand::Option(amount) => *amount = amount.wrapping_add_signed(by),
+        | Operand::Option(amount)
+        | Operand::Coprocessor(amount)
+        | Operand::CoprocessorRegister(amount) => *amount = amount.wrapping_add_signed(by),
         Operand::Memory(memory) => {
             memory.displacement = memory.displacement.wrapping_add(by.into());
         }
@@ -300,7 +310,9 @@ fn widen_operand(operand: &mut Operand, random: &mut Random) -> bool {
         Operand::Register(register)
         | Operand::ShiftByRegister { register, .. }
         | Operand::WriteBack(register) => *register = register.wrapping_add(past(4, random)),
-        Operand::Option(option) => *option = option.wrapping_add(past(4, random)),
+        Operand::Option(number)
+        | Operand::Coprocessor(number)
+        | Operand::CoprocessorRegister(number) => *number = number.wrapping_add(past(4, random)),
         Operand::Shifted { register, .. } if random.coin() => {
             *register = register.wrapping_add(past(4, random));
         }
@@ -332,9 +344,12 @@ fn past(bits: u64, random: &mut Random) -> u8 {
 }
 
 /// Past the fields of a count, a number or a displacement, with its sign or without.
-const WIDTHS: [i64; 8] = [
+const WIDTHS: [i64; 11] = [
+    1 << 3,
+    1 << 4,
     1 << 5,
     1 << 8,
+    1 << 10,
     1 << 12,
     1 << 16,
     1 << 31,

@@ -1,6 +1,7 @@
 //! The words that follow the manual and not the Rust (02): the barriers, `clrex` and the preloads,
 //! all under condition 15 with 27:24 = 0101 (P1), and under a condition below 15 the halfword
-//! multiplies (P3) and the saturates (P4).
+//! multiplies (P3) and the saturates (P4). Where the Rust's own answer to a word of a coprocessor
+//! or to a supervisor call is another than that of its `coproc` (P9), it is counted with these.
 
 use std::collections::BTreeMap;
 use std::fmt::{self, Display, Formatter};
@@ -8,7 +9,7 @@ use std::iter::Sum;
 
 use crate::answer::{Answer, Flow, Instruction, Memory, Mode, Operand, PLACES};
 use crate::names::{ASR, LSL, ROOTS};
-use crate::oracle::Oracle;
+use crate::oracle::{Oracle, first_called};
 use crate::pattern::{Pattern, pattern};
 use crate::words::Block;
 
@@ -193,12 +194,15 @@ pub struct Exceptions(BTreeMap<[&'static str; 2], u64>);
 impl Exceptions {
     pub fn add(&mut self, oracle: &mut Oracle, block: Block) {
         for word in block.words() {
-            let Some(here) = answer(word, 0) else {
-                continue;
+            let parted = match answer(word, 0) {
+                Some(here) => {
+                    let answers = [oracle.rust(word, 0), here];
+                    (answers[0] != answers[1]).then(|| answers.map(called))
+                }
+                None => first_called(word),
             };
-            let answers = [oracle.rust(word, 0), here];
-            if answers[0] != answers[1] {
-                *self.0.entry(answers.map(called)).or_default() += 1;
+            if let Some(called) = parted {
+                *self.0.entry(called).or_default() += 1;
             }
         }
     }
@@ -351,11 +355,11 @@ mod tests {
         assert_eq!(exceptions(0xf500_0000, 1 << 24), expected.into());
     }
 
-    /// Each of the sixteen forms, which are the last names, has four fields of four bits. The Rust
-    /// refuses them all.
+    /// Each of the sixteen forms, whose names stand before those of coprocessors, has four fields
+    /// of four bits. The Rust refuses them all.
     #[test]
     fn how_many_halfword_multiplies() {
-        let forms = ROOTS[ROOTS.len() - 16..].iter();
+        let forms = ROOTS[133..149].iter();
         let expected = forms.map(|&root| (["refused", root], 1 << 16));
         assert_eq!(exceptions(0xe100_0000, 1 << 24), expected.collect());
     }
@@ -365,5 +369,14 @@ mod tests {
     fn how_many_saturates() {
         let expected = ["ssat", "usat"].map(|root| ([root, root], 1 << 18));
         assert_eq!(exceptions(0xe600_0000, 1 << 24), expected.into());
+    }
+
+    /// Of the words of coprocessors `vfp` answers none first, and the Rust names every supervisor
+    /// call.
+    #[test]
+    fn how_many_supervisor_calls() {
+        assert_eq!(exceptions(0xec00_0000, 3 << 24), BTreeMap::new());
+        let expected = [(["svc", "refused"], 1 << 24)];
+        assert_eq!(exceptions(0x0f00_0000, 1 << 24), expected.into());
     }
 }

@@ -1,5 +1,5 @@
-//! The home word of an accepted word, as document 01 has it in "Home words", and 02, P1, P3, P4
-//! and P5.
+//! The home word of an accepted word, as document 01 has it in "Home words", and 02, P1, P3, P4,
+//! P5 and P9.
 
 use Field::{Ones, Zeros};
 
@@ -23,8 +23,8 @@ enum Field {
 pub struct Space {
     /// The first row that has a word counts. A word that is in none ignores nothing.
     pub rows: &'static [Row],
-    /// The words in which bit 23 is set, in addition.
-    upward: Pattern,
+    /// The words in which a bit is set, in addition, each with the bit.
+    set: &'static [(Pattern, u32)],
 }
 
 /// The words of a row, the bits that are ignored in them, and which of these the manual draws as
@@ -71,12 +71,18 @@ pub static CONDITIONAL: Space = Space {
         row("0001 0010 .... .... .... 0010 ....", &[Ones(19, 8)]),
         row("0001 0010 .... .... .... 0011 ....", &[Ones(19, 8)]),
         // clz
-        row("0001 0110 .... .... .... 0001 ....", &[Ones(19, 16), Ones(11, 8)]),
+        row(
+            "0001 0110 .... .... .... 0001 ....",
+            &[Ones(19, 16), Ones(11, 8)],
+        ),
         // saturating adds
         row("0001 0..0 .... .... .... 0101 ....", &[Zeros(11, 8)]),
         // exclusives: stores, then loads
         row("0001 1..0 .... .... .... 1001 ....", &[Ones(11, 8)]),
-        row("0001 1..1 .... .... .... 1001 ....", &[Ones(11, 8), Ones(3, 0)]),
+        row(
+            "0001 1..1 .... .... .... 1001 ....",
+            &[Ones(11, 8), Ones(3, 0)],
+        ),
         // extra index form: 6:5 = 01, then 1x
         row("000. .0.. .... .... .... 1011 ....", &[Zeros(11, 8)]),
         row("000. .0.. .... .... .... 11.1 ....", &[Zeros(11, 8)]),
@@ -89,15 +95,21 @@ pub static CONDITIONAL: Space = Space {
         row("0111 0001 .... .... .... 0001 ....", &[Ones(15, 12)]),
         row("0111 0011 .... .... .... 0001 ....", &[Ones(15, 12)]),
     ],
-    // load/store (not extra) immediate offset mode, when 11:0 is 0
-    upward: pattern("0101 ..0. .... .... 0000 0000 0000"),
+    set: &[
+        // load/store (not extra) immediate offset mode, when 11:0 is 0
+        (pattern("0101 ..0. .... .... 0000 0000 0000"), 23),
+        // ldc and stc: U when 7:0 is 0, before and after; W when P is clear
+        (pattern("1101 .... .... .... .... 0000 0000"), 23),
+        (pattern("1100 0.1. .... .... .... 0000 0000"), 23),
+        (pattern("1100 1.0. .... .... .... .... ...."), 21),
+    ],
 };
 
 static CONDITION_15: Space = Space {
     // clrex
     rows: &[row("0101 0111 1111 1111 0000 0001 ....", &[Ones(3, 0)])],
     // preloads, when 11:0 is 0
-    upward: pattern("0101 ..01 .... 1111 0000 0000 0000"),
+    set: &[(pattern("0101 ..01 .... 1111 0000 0000 0000"), 23)],
 };
 
 /// The home word of an accepted word; a refused one has none.
@@ -110,8 +122,8 @@ pub fn home(word: u32, filler: Filler) -> u32 {
     let row = space.rows.iter().find(|row| row.words.has(word));
     let (ignored, ones) = row.map_or((0, 0), |row| (row.ignored, row.ones));
     let filled = if filler == Filler::Manual { ones } else { 0 };
-    let set = if space.upward.has(word) { 1 << 23 } else { 0 };
-    word & !ignored | filled | set
+    let set = space.set.iter().filter(|(words, _)| words.has(word));
+    set.fold(word & !ignored | filled, |home, (_, bit)| home | 1 << bit)
 }
 
 /// A row: bits 27:0 of its words as they are drawn, and the fields that are ignored in them.
@@ -270,6 +282,23 @@ mod tests {
             (0xe6bf_1fdf, 0xe6bf_1fdf), // ssat
             (0xe6ff_1fdf, 0xe6ff_1fdf), // usat
             (0xe6bf_1f31, 0xe6bf_1f31), // rev, beside them
+        ]);
+    }
+
+    #[test]
+    fn coprocessors() {
+        check(&[
+            (0xed11_5e00, 0xed91_5e00), // ldc, offset mode, minus zero
+            (0xed21_5e00, 0xeda1_5e00), // stc, pre, minus zero
+            (0xec71_5e00, 0xecf1_5e00), // ldcl, post, minus zero
+            (0xec71_5e01, 0xec71_5e01), // ldcl, post, minus 4
+            (0xec91_5e01, 0xecb1_5e01), // ldc, post, W clear
+            (0xecc1_5e00, 0xece1_5e00), // stcl, post, W clear
+            (0xed11_5e01, 0xed11_5e01), // ldc, offset mode, minus 4
+            (0xec41_5e00, 0xec41_5e00), // mcrr
+            (0xec51_5e00, 0xec51_5e00), // mrrc
+            (0xee01_5e00, 0xee01_5e00), // cdp
+            (0xee11_5e10, 0xee11_5e10), // mrc
         ]);
     }
 

@@ -4,7 +4,8 @@ use std::fmt::{self, Display, Formatter};
 
 use crate::answer::{Answer, Flow, Instruction, Memory, Mode, Operand};
 use crate::names::{
-    BARRIER_OPTIONS, REGISTERS, ROOTS, SHIFTS, STATUS_MASKS, STATUS_SOURCES, SUFFIXES,
+    BARRIER_OPTIONS, COPROCESSOR_REGISTERS, COPROCESSORS, REGISTERS, ROOTS, SHIFTS, STATUS_MASKS,
+    STATUS_SOURCES, SUFFIXES, around_condition,
 };
 
 /// A word at its address, with the answer to it.
@@ -26,9 +27,9 @@ impl Display for Line {
 
 impl Display for Instruction {
     fn fmt(&self, f: &mut Formatter) -> fmt::Result {
-        let root = ROOTS[self.name as usize];
+        let (before, after) = around_condition(ROOTS[self.name as usize]);
         let suffix = SUFFIXES[self.condition as usize];
-        write!(f, "{root}{suffix}")?;
+        write!(f, "{before}{suffix}{after}")?;
         for operand in self.operands {
             if operand != Operand::Empty {
                 write!(f, " {operand}")?;
@@ -79,6 +80,10 @@ impl Display for Operand {
             Operand::Address(address) => write!(f, "@{address:08x}"),
             Operand::Memory(memory) => memory.fmt(f),
             Operand::Option(option) => f.write_str(BARRIER_OPTIONS[option as usize]),
+            Operand::Coprocessor(number) => f.write_str(COPROCESSORS[number as usize]),
+            Operand::CoprocessorRegister(number) => {
+                f.write_str(COPROCESSOR_REGISTERS[number as usize])
+            }
         }
     }
 }

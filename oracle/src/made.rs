@@ -69,7 +69,7 @@ pub fn flow_to(target: u32, random: &mut Random) -> Flow {
 
 /// An operand of any kind but the empty one.
 pub fn operand(random: &mut Random) -> Operand {
-    match random.below(14) {
+    match random.below(16) {
         0 => Operand::Register(register(random)),
         1 => Operand::Shifted {
             register: register(random),
@@ -93,7 +93,9 @@ pub fn operand(random: &mut Random) -> Operand {
         10 => Operand::List(random.bits() as u16),
         11 => Operand::Address(random.bits() as u32),
         12 => Operand::Memory(memory(random)),
-        _ => Operand::Option(option(random)),
+        13 => Operand::Option(option(random)),
+        14 => Operand::Coprocessor(register(random)),
+        _ => Operand::CoprocessorRegister(register(random)),
     }
 }
 
@@ -125,7 +127,7 @@ pub fn size(random: &mut Random) -> u8 {
     random.pick(&[0, 1, 2, 4, 8, any])
 }
 
-/// A register, now and then one that there is not.
+/// A register or a coprocessor, now and then one that there is not.
 pub fn register(random: &mut Random) -> u8 {
     if random.one_in(8) {
         random.bits() as u8

@@ -65,7 +65,7 @@ modes of the oracle (numbers are hexadecimal, but COUNT, SEED and ENTRY; no SET 
   load COUNT SEED PROGRAM ..  runs the program on each instead
   walk FILE ENTRY ..   prints the report of a walk through a section from each place
   walks COUNT SEED     has the proved code walk through made-up and stored sections
-  SET                  FIRST COUNT, or 'branches'";
+  SET                  FIRST COUNT, 'branches', or 'coprocessors'";
 
 fn main() -> ExitCode {
     let arguments: Vec<String> = env::args().skip(1).collect();

@@ -1,14 +1,14 @@
-//! The fixed tables of names: roots, conditions, registers, shifts, status masks and sources, and
-//! the options of a barrier.
+//! The fixed tables of names: roots, conditions, registers, shifts, status masks and sources, the
+//! options of a barrier, and coprocessors with their registers.
 
 pub(crate) use crate::arm::BARRIERS as BARRIER_OPTIONS;
 pub(crate) use crate::arm::MSR_MASKS as STATUS_MASKS;
 
-/// The roots by name number, in the order in which a32.rs first spells them; but `clrex` and the
-/// barriers, which no word of the Rust's reaches, and the halfword multiplies, which it does not
-/// spell, are last.
+/// The roots by name number, in the order in which a32.rs first spells them; but after them `clrex`
+/// and the barriers, which no word of the Rust's reaches, the halfword multiplies, which it does not
+/// spell, and the roots of mod.rs, in its order.
 #[rustfmt::skip]
-pub const ROOTS: [&str; 149] = [
+pub const ROOTS: [&str; 158] = [
     "and", "eor", "sub", "rsb", "add", "adc", "sbc", "rsc",
     "tst", "teq", "cmp", "cmn", "orr", "mov", "bic", "mvn",
     "ands", "eors", "subs", "rsbs", "adds", "adcs", "sbcs", "rscs",
@@ -34,7 +34,16 @@ pub const ROOTS: [&str; 149] = [
     "clrex", "dsb", "dmb", "isb",
     "smlabb", "smlabt", "smlatb", "smlatt", "smlawb", "smlawt", "smulwb", "smulwt",
     "smlalbb", "smlalbt", "smlaltb", "smlaltt", "smulbb", "smulbt", "smultb", "smultt",
+    "mrc", "mcr", "cdp", "mrrc", "mcrr", "ldc", "ldcl", "stc", "stcl",
 ];
+
+/// What of a root stands before the condition, and what after it: the `l` of a long transfer.
+pub fn around_condition(root: &str) -> (&str, &str) {
+    root.split_at(match root {
+        "ldcl" | "stcl" => 3,
+        _ => root.len(),
+    })
+}
 
 /// What each condition adds to a root.
 pub const SUFFIXES: [&str; 16] = [
@@ -53,3 +62,13 @@ pub const LSL: u8 = 0;
 pub const ASR: u8 = 2;
 
 pub const STATUS_SOURCES: [&str; 2] = ["apsr", "spsr"];
+
+pub const COPROCESSORS: [&str; 16] = [
+    "p0", "p1", "p2", "p3", "p4", "p5", "p6", "p7", "p8", "p9", "p10", "p11", "p12", "p13", "p14",
+    "p15",
+];
+
+pub const COPROCESSOR_REGISTERS: [&str; 16] = [
+    "c0", "c1", "c2", "c3", "c4", "c5", "c6", "c7", "c8", "c9", "c10", "c11", "c12", "c13", "c14",
+    "c15",
+];

@@ -1,5 +1,6 @@
-//! The answer that is right for a word: the manual's for those that 02 excepts, and else the Rust's,
-//! read as an `Answer`. What an answer can't express stops the program.
+//! The answer that is right for a word: the manual's for those that 02 excepts, of coprocessors
+//! that of the Rust's `coproc`, and else the Rust's, read as an `Answer`. What an answer can't
+//! express stops the program.
 
 use std::ptr;
 
@@ -8,7 +9,10 @@ use crate::answer::{Answer, Flow, Index, Instruction, Memory, Mode, Operand, PLA
 use crate::arm::{self, text};
 use crate::excepted;
 use crate::insn::{self, AddrMode, Extend, Insn, Mem, Reg, Shift};
-use crate::names::{REGISTERS, ROOTS, SHIFTS, STATUS_MASKS, STATUS_SOURCES, SUFFIXES};
+use crate::names::{
+    COPROCESSOR_REGISTERS, COPROCESSORS, REGISTERS, ROOTS, SHIFTS, STATUS_MASKS, STATUS_SOURCES,
+    SUFFIXES, around_condition,
+};
 
 /// The Rust decoder, with what it was seen to hand out.
 pub struct Oracle {
@@ -27,15 +31,22 @@ impl Oracle {
 
     /// The answer to `word` at `address`.
     pub fn answer(&mut self, word: u32, address: u64) -> Answer {
-        excepted::answer(word, address).unwrap_or_else(|| self.rust(word, address))
+        if !is_coprocessor(word) {
+            excepted::answer(word, address).unwrap_or_else(|| self.rust(word, address))
+        } else if is_floating(word) {
+            Answer::Refused(2)
+        } else {
+            self.read(word, coproc(word, address))
+        }
     }
 
-    /// The Rust's own.
+    /// The Rust's own. Of the words of coprocessors it is not asked.
     pub fn rust(&mut self, word: u32, address: u64) -> Answer {
-        if is_coprocessor(word) {
-            return Answer::Refused(2);
-        }
-        let Some(insn) = arm::decode_word(word, Addr(address)) else {
+        self.read(word, arm::decode_word(word, Addr(address)))
+    }
+
+    fn read(&mut self, word: u32, said: Option<Insn>) -> Answer {
+        let Some(insn) = said else {
             return Answer::Refused(3);
         };
         match self.instruction(word, &insn) {
@@ -57,8 +68,13 @@ impl Oracle {
         Some(Instruction {
             address: insn.addr.get(),
             name: self.names[condition as usize].meaning(insn.mnemonic, |mnemonic| {
-                let root = mnemonic.strip_suffix(SUFFIXES[condition as usize])?;
-                place_in(&ROOTS, root).map(u16::from)
+                let suffix = SUFFIXES[condition as usize];
+                let place = ROOTS.iter().position(|root| {
+                    let (before, after) = around_condition(root);
+                    let rest = mnemonic.strip_prefix(before);
+                    rest.and_then(|rest| rest.strip_suffix(after)) == Some(suffix)
+                })?;
+                place.try_into().ok()
             })?,
             condition: condition as u8,
             flow: flow(insn.flow)?,
@@ -89,9 +105,40 @@ impl Oracle {
     }
 }
 
-/// The words that are out of scope, whatever the Rust answers (01, refusal 2).
+/// The words of coprocessors and the supervisor calls (02, P9).
 fn is_coprocessor(word: u32) -> bool {
     word >> 28 < 15 && word >> 26 & 0b11 == 0b11
+}
+
+/// Of these, the ones of coprocessors 10 and 11, which are refused, whatever the Rust answers.
+fn is_floating(word: u32) -> bool {
+    matches!(word >> 8 & 0xf, 10 | 11)
+}
+
+/// Of these, the supervisor calls.
+fn is_call(word: u32) -> bool {
+    word >> 24 & 0xf == 0xf
+}
+
+fn coproc(word: u32, address: u64) -> Option<Insn> {
+    arm::coproc(word, word >> 28, Addr(address), false)
+}
+
+/// What the Rust calls a word that its `vfp` answers before `coproc` does, and what it is called here.
+/// Of the words of coprocessors 10 and 11 that are no supervisor call it is not asked.
+pub fn first_called(word: u32) -> Option<[&'static str; 2]> {
+    if !is_coprocessor(word) || is_floating(word) && !is_call(word) {
+        return None;
+    }
+    let answers = [arm::decode_word(word, Addr(0)), coproc(word, 0)];
+    (answers[0] != answers[1]).then(|| {
+        answers.map(|said| {
+            said.map_or("refused", |insn| {
+                let suffix = SUFFIXES[(word >> 28) as usize];
+                insn.mnemonic.strip_suffix(suffix).unwrap_or(insn.mnemonic)
+            })
+        })
+    })
 }
 
 fn flow(flow: insn::Flow) -> Option<Flow> {
@@ -158,6 +205,12 @@ fn named_operand(text: &str) -> Option<Operand> {
     }
     if let Some(source) = place_in(&STATUS_SOURCES, text) {
         return Some(Operand::StatusSource(source));
+    }
+    if let Some(number) = place_in(&COPROCESSORS, text) {
+        return Some(Operand::Coprocessor(number));
+    }
+    if let Some(number) = place_in(&COPROCESSOR_REGISTERS, text) {
+        return Some(Operand::CoprocessorRegister(number));
     }
     if let Some(register) = text.strip_suffix('!') {
         return place_in(&REGISTERS, register).map(Operand::WriteBack);

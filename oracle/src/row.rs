@@ -70,7 +70,7 @@ pub fn padded(numbers: &[u64]) -> Row {
 
 /// An operand's numbers. Those that its kind has no use for are 0.
 fn operand_row(operand: Operand) -> [u64; OPERAND] {
-    // kind; register; shift's kind or status source; amount, mask or option; sign; value
+    // kind; register; shift's kind or status source; amount, mask, option or coprocessor; sign; value
     let [kind, register, choice, amount, sign, value] = match operand {
         Operand::Empty => [0; 6],
         Operand::Register(register) => [1, register.into(), 0, 0, 0, 0],
@@ -94,6 +94,8 @@ fn operand_row(operand: Operand) -> [u64; OPERAND] {
         Operand::Address(address) => [12, 0, 0, 0, 0, address.into()],
         Operand::Memory(memory) => return memory_row(memory),
         Operand::Option(option) => [14, 0, 0, option.into(), 0, 0],
+        Operand::Coprocessor(number) => [15, 0, 0, number.into(), 0, 0],
+        Operand::CoprocessorRegister(number) => [16, 0, 0, number.into(), 0, 0],
     };
     [kind, register, choice, amount, sign, value, 0, 0, 0, 0, 0]
 }
@@ -161,6 +163,8 @@ mod tests {
                     decimal: true,
                     minus_zero: false,
                 }),
+                Operand::Coprocessor(15),
+                Operand::CoprocessorRegister(7),
             ],
         };
         let row = row(&value);
@@ -169,12 +173,14 @@ mod tests {
         assert_eq!(row[16..27], [6, 0, 0, 0, 1, 0, 0, 0, 0, 0, 0]);
         assert_eq!(row[27..38], [14, 0, 0, 15, 0, 0, 0, 0, 0, 0, 0]);
         let most = (1 << 63) - 1;
-        assert_eq!(row[38..], [13, 13, 1, 2, 1, most, 12, 2, 8, 1, 0]);
+        assert_eq!(row[38..49], [13, 13, 1, 2, 1, most, 12, 2, 8, 1, 0]);
+        assert_eq!(row[49..60], [15, 0, 0, 15, 0, 0, 0, 0, 0, 0, 0]);
+        assert_eq!(row[60..], [16, 0, 0, 7, 0, 0, 0, 0, 0, 0, 0]);
     }
 
     #[test]
     fn rows_of_every_length_are_padded() {
-        let numbers: Vec<u64> = (1..=60).collect();
+        let numbers: Vec<u64> = (1..=80).collect();
         for length in 0..numbers.len() {
             let row = padded(&numbers[..length]);
             let kept = length.min(ROW);
@@ -186,7 +192,7 @@ mod tests {
     #[test]
     fn choices_and_widths_are_those_of_their_places() {
         assert_eq!(CHOICES[..8], [3, 5, 7, 9, 12, 14, 15, 16]);
-        assert_eq!(CHOICES[24], ROW - 1);
+        assert_eq!(CHOICES[36], ROW - 1);
         let widths: Vec<u64> = (0..16).map(width).collect();
         assert_eq!(widths[..5], [64, 16, 8, 8, 32]);
         assert_eq!(widths[5..], [8, 8, 8, 8, 8, 32, 8, 8, 8, 8, 8]);

@@ -358,11 +358,11 @@ mod tests {
 
     #[test]
     fn data_and_refused_words_stop() {
-        let words = [NOP, 0xef00_0000, NOP, 0xf000_0000, 0xea00_0000];
+        let words = [NOP, 0xee00_0a10, NOP, 0xf000_0000, 0xea00_0000];
         let words_2 = section(0x8000, &[(2, 1), (4, 1)], &words);
         assert_eq!(
             report(&words_2, 0),
-            "0 reached e1a00000\n1 reached ef000000\n1 stopped 00000002"
+            "0 reached e1a00000\n1 reached ee000a10\n1 stopped 00000002"
         );
         assert_eq!(
             report(&words_2, 2),
@@ -379,7 +379,7 @@ mod tests {
         );
         assert_eq!(
             report(&at_8000(&[0xef00_0000]), 0),
-            "0 reached ef000000\n0 stopped 00000002"
+            "0 reached ef000000\n0 stopped 00000003"
         );
     }
 

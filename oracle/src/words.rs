@@ -31,12 +31,16 @@ impl Block {
 }
 
 /// The blocks of the set that the arguments name: none, every word; `branches`, the words with
-/// 27:25 = 101; else a first word and a number of words.
+/// 27:25 = 101; `coprocessors`, those with a condition below 15 and 27:26 = 11; else a first word
+/// and a number of words.
 pub fn set(arguments: &[&str]) -> Result<Vec<Block>, String> {
     match arguments {
         [] => Ok(blocks(0, 1 << 32)),
         ["branches"] => Ok((0..16)
             .flat_map(|condition| blocks(condition << 28 | 0b101 << 25, 1 << 25))
+            .collect()),
+        ["coprocessors"] => Ok((0..15)
+            .flat_map(|condition| blocks(condition << 28 | 0b11 << 26, 1 << 26))
             .collect()),
         [first, count] => {
             let (first, count) = (hex(first)?, hex(count)?);
@@ -45,7 +49,9 @@ pub fn set(arguments: &[&str]) -> Result<Vec<Block>, String> {
             }
             Ok(blocks(first, count))
         }
-        _ => Err("a set of words is nothing, 'branches', or FIRST COUNT".to_string()),
+        _ => {
+            Err("a set of words is nothing, 'branches', 'coprocessors', or FIRST COUNT".to_string())
+        }
     }
 }
 

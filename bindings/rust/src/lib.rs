@@ -7,10 +7,10 @@
 #![no_std]
 
 /// The version that these declarations are of, as `BRASSDOZEN_VERSION` of the header says it.
-pub const VERSION: u32 = 20_200;
+pub const VERSION: u32 = 30_000;
 
 /// How many numbers a row has.
-pub const ROW: usize = 49;
+pub const ROW: usize = 71;
 
 /// No line has more bytes.
 pub const LINE: usize = 96;
@@ -32,7 +32,7 @@ impl Refusal {
     /// Decoding bytes: fewer than four.
     pub const SHORT: Refusal = Refusal(1);
 
-    /// Decoding: condition below 15 and bits 27:26 = 11.
+    /// Decoding: condition below 15, bits 27:26 = 11, coprocessor 10 or 11.
     pub const COPROCESSOR: Refusal = Refusal(2);
 
     /// Decoding: any other word that names no instruction that is known.
@@ -77,7 +77,7 @@ impl core::fmt::Display for Refusal {
         // As refusals.txt has them.
         let why = match self.0 {
             1 => ": fewer than 4 bytes",
-            2 => ": out of scope: condition below 15 and bits 27:26 = 11",
+            2 => ": out of scope: condition below 15, bits 27:26 = 11, coprocessor 10 or 11",
             3 => ": no instruction that is known here",
             4 => ": no word has this answer",
             5 => ": mark not RSX",

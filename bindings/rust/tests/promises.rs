@@ -125,7 +125,7 @@ fn digested_numbers(row: &[u64; ROW]) -> Vec<u64> {
             2 => vec![register, how, amount],
             3 => vec![how, register],
             4 => vec![how, amount],
-            5 | 8 | 14 => vec![amount],
+            5 | 8 | 14..=16 => vec![amount],
             6 => vec![upper, lower],
             7 | 11 | 12 => vec![value],
             9 => vec![how],
@@ -203,7 +203,8 @@ fn words_come_home() {
                 assert_eq!(row[2], u64::from(word >> 28));
             }
             Err(refusal) => {
-                let coprocessor = word >> 28 < 15 && word >> 26 & 3 == 3;
+                let floating = matches!(word >> 8 & 15, 10 | 11);
+                let coprocessor = word >> 28 < 15 && word >> 26 & 3 == 3 && floating;
                 let expected = if coprocessor {
                     Refusal::COPROCESSOR
                 } else {
@@ -442,7 +443,7 @@ fn saturates_have_as_many_bits_as_their_field_can_say() {
     }
 }
 
-/// Beyond a row's end there are zeros, and nothing after the 49th number is read.
+/// Beyond a row's end there are zeros, and nothing after the 71st number is read.
 #[test]
 fn rows_of_every_length_encode() {
     let mut random = Random(6);
@@ -744,7 +745,7 @@ fn a_walk_shows_every_way_out() {
         [5, kind::REACHED, 0x112f_ff1e],
         [6, kind::REACHED, 0x1a00_0000],
         [7, kind::REACHED, 0xef00_0000],
-        [7, kind::STOPPED, 2],
+        [7, kind::STOPPED, 3],
         [8, kind::REACHED, 0x0a00_0000],
         [9, kind::REACHED, 0xe1a0_0000],
         [9, kind::STOPPED, 0],

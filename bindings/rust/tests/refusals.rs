@@ -28,5 +28,5 @@ fn a_refusal_is_an_error() {
         Ok(())
     }
     let why = fails().expect_err("a supervisor call is refused");
-    assert_eq!(why.downcast_ref(), Some(&Refusal::COPROCESSOR));
+    assert_eq!(why.downcast_ref(), Some(&Refusal::NO_ROW));
 }

@@ -2,13 +2,12 @@
 -- to hold of the decoder's answers is shown group by group. Assumes nothing.
 use mathlib.Core.Path.{_≡_, sym, fun-ext, subst}
 use mathlib.Core.Bool.{true, false}
-use Prim.Native.Nat.{ℕ, _*_, _+_, _<_, _≤_}
+use Prim.Native.Nat.{ℕ, _*_, _+_}
 use native.Mathlib.Omega.{arith}
 use borrow.Author.Tests.{eqb-true, eqb-false}
 use lib.Dec.{eqb}
 use Rattle.word.specs.Choice.{by-test}
 use Rattle.word.specs.Field.{field, small, splits}
-use Rattle.insn.specs.Answer.{refused}
 use Rattle.insn.specs.declared.Decoded.{Decoded}
 use Rattle.a32_dp.specs.DpReg.{dpRegOf}
 use Rattle.a32_dp.specs.DpImm.{dpImmOf}
@@ -22,6 +21,7 @@ use Rattle.a32_media.specs.Media.{mediaOf}
 use Rattle.a32_transfer.specs.Block.{blockOf}
 use Rattle.a32_transfer.specs.Branch.{branchOf}
 use Rattle.a32_transfer.specs.Unconditional.{unconditionalOf}
+use Rattle.a32_coproc.specs.Coproc.{coprocOf}
 use Rattle.a32.specs.Decode.{controlOf, plainOf, extraOf, dpMiscOf, groupOf, decodeOf}
 
 -- a condition below 15
@@ -31,7 +31,6 @@ Below w = eqb (field w 28 4) 15 ≡ false
 -- the group of a word, with the tests that lead there
 pub data Group (w : ℕ) : (ℕ → ℕ → Decoded) → Type 0 where
   unconditional : field w 28 4 ≡ 15 → Group w unconditionalOf
-  coprocessor : Below w → field w 26 2 ≡ 3 → Group w (λ v addr. refused 2)
   misc : Below w → field w 25 3 ≡ 0 → controlOf w ≡ true → field w 7 1 ≡ 0 → Group w miscOf
   halfword : Below w → field w 25 3 ≡ 0 → controlOf w ≡ true → field w 7 1 ≡ 1 → field w 4 1 ≡ 0 → Group w halfwordOf
   dp-reg : Below w → field w 25 3 ≡ 0 → controlOf w ≡ false → (field w 4 1 ≡ 1 → field w 7 1 ≡ 0) → Group w dpRegOf
@@ -44,6 +43,7 @@ pub data Group (w : ℕ) : (ℕ → ℕ → Decoded) → Type 0 where
   media : Below w → field w 25 3 ≡ 3 → field w 4 1 ≡ 1 → Group w mediaOf
   block : Below w → field w 25 3 ≡ 4 → Group w blockOf
   branch : Below w → field w 25 3 ≡ 5 → Group w branchOf
+  coprocessor : Below w → field w 26 2 ≡ 3 → Group w coprocOf
 
 -- a bit is set or clear
 pub set-bit : (w n : ℕ) → eqb (field w n 1) 0 ≡ false → field w n 1 ≡ 1
@@ -53,33 +53,33 @@ pub bit-cases {ℓ} : {A : Type ℓ} (w n : ℕ) → (field w n 1 ≡ 0 → A) �
 bit-cases w n off on = by-test (eqb (field w n 1) 0) (λ e. off (eqb-true (field w n 1) 0 e)) (λ e. on (set-bit w n e))
 
 module _ (w : ℕ) where
-  -- 27:26 from 27:25
-  pub top : {g : ℕ} (h : ℕ) → field w 25 3 ≡ g → h * 2 ≤ g → g < h * 2 + 2 → field w 26 2 ≡ h
-  top h is low high = omega (arith, splits w 25 2 1, small w 25 1)
+  -- 27:25 from 27:26 and bit 25
+  bottom : {h b : ℕ} → field w 26 2 ≡ h → field w 25 1 ≡ b → field w 25 3 ≡ h * 2 + b
+  bottom high low = omega (arith, splits w 25 2 1)
 
   -- the answer of a word is that of its group
   pub reaches : {row : ℕ → ℕ → Decoded} → Group w row → (addr : ℕ) → decodeOf w addr ≡ row w addr
   unfolding decodeOf groupOf dpMiscOf plainOf extraOf
   reaches (unconditional c) addr = simp c
-  reaches (coprocessor c p) addr = simp (c, p)
   reaches (misc c g is seven) addr =
       bit-cases w 4
-      (λ four. simp (c, top 0 g (omega arith) (omega arith), g, is, four, seven))
-      (λ four. simp (c, top 0 g (omega arith) (omega arith), g, is, four, seven))
-  reaches (halfword c g is seven four) addr = simp (c, top 0 g (omega arith) (omega arith), g, is, four, seven)
+      (λ four. simp (c, g, is, four, seven))
+      (λ four. simp (c, g, is, four, seven))
+  reaches (halfword c g is seven four) addr = simp (c, g, is, four, seven)
   reaches (dp-reg c g is seven) addr =
       bit-cases w 4
-      (λ four. simp (c, top 0 g (omega arith) (omega arith), g, is, four))
-      (λ four. simp (c, top 0 g (omega arith) (omega arith), g, is, four, seven four))
-  reaches (multiply c g seven four kind exclusive) addr = simp (c, top 0 g (omega arith) (omega arith), g, four, seven, kind, exclusive)
-  reaches (sync c g seven four kind exclusive) addr = simp (c, top 0 g (omega arith) (omega arith), g, four, seven, kind, exclusive)
-  reaches (extra-ldst c g seven four kind) addr = simp (c, top 0 g (omega arith) (omega arith), g, four, seven, kind)
-  reaches (dp-imm c g) addr = simp (c, top 0 g (omega arith) (omega arith), g)
-  reaches (ldst c g) addr = simp (c, top 1 g (omega arith) (omega arith), g)
-  reaches (ldst-index c g four) addr = simp (c, top 1 g (omega arith) (omega arith), g, four)
-  reaches (media c g four) addr = simp (c, top 1 g (omega arith) (omega arith), g, four)
-  reaches (block c g) addr = simp (c, top 2 g (omega arith) (omega arith), g)
-  reaches (branch c g) addr = simp (c, top 2 g (omega arith) (omega arith), g)
+      (λ four. simp (c, g, is, four))
+      (λ four. simp (c, g, is, four, seven four))
+  reaches (multiply c g seven four kind exclusive) addr = simp (c, g, four, seven, kind, exclusive)
+  reaches (sync c g seven four kind exclusive) addr = simp (c, g, four, seven, kind, exclusive)
+  reaches (extra-ldst c g seven four kind) addr = simp (c, g, four, seven, kind)
+  reaches (dp-imm c g) addr = simp (c, g)
+  reaches (ldst c g) addr = simp (c, g)
+  reaches (ldst-index c g four) addr = simp (c, g, four)
+  reaches (media c g four) addr = simp (c, g, four)
+  reaches (block c g) addr = simp (c, g)
+  reaches (branch c g) addr = simp (c, g)
+  reaches (coprocessor c p) addr = bit-cases w 25 (λ low. simp (c, bottom p low)) (λ low. simp (c, bottom p low))
 
   -- every word has a group
   abbrev Found : Type 0
@@ -119,7 +119,7 @@ module _ (w : ℕ) where
         (λ e. bit-cases w 4 (λ four. (ldstOf, ldst-index c (eqb-true _ 3 e) four)) (λ four. (mediaOf, media c (eqb-true _ 3 e) four))) λ n3.
         by-test (eqb (field w 25 3) 4) (λ e. (blockOf, block c (eqb-true _ 4 e))) λ n4.
         by-test (eqb (field w 25 3) 5) (λ e. (branchOf, branch c (eqb-true _ 5 e))) λ n5. (
-          (λ v addr. refused 2),
+          coprocOf,
           coprocessor c (above (eqb-false _ 0 n0) (eqb-false _ 1 n1) (eqb-false _ 2 n2) (eqb-false _ 3 n3) (eqb-false _ 4 n4)
               (eqb-false _ 5 n5)),
         )

@@ -7,7 +7,7 @@ use lib.ListN.{length}
 use Rattle.word.specs.Bytes.{wordAt}
 use Rattle.word.specs.Field.{field}
 use Rattle.word.specs.Choice.{pick, both}
-use Rattle.word.specs.Refusal.{SHORT, COPROCESSOR}
+use Rattle.word.specs.Refusal.{SHORT}
 use Rattle.insn.specs.Answer.{refused}
 use Rattle.insn.specs.declared.Decoded.{Decoded}
 use Rattle.a32_shared.specs.Row.{among, _⇒_}
@@ -23,6 +23,7 @@ use Rattle.a32_media.specs.Media.{mediaOf}
 use Rattle.a32_transfer.specs.Block.{blockOf}
 use Rattle.a32_transfer.specs.Branch.{branchOf}
 use Rattle.a32_transfer.specs.Unconditional.{unconditionalOf}
+use Rattle.a32_coproc.specs.Coproc.{coprocOf}
 
 -- "control (24:23 = 10 and bit 20 clear)"
 unfoldable pub controlOf : ℕ → Bool
@@ -44,7 +45,7 @@ unfoldable pub dpMiscOf : ℕ → ℕ → Decoded
 dpMiscOf w addr =
     pick (eqb (field w 4 1) 0) (plainOf w addr) (pick (eqb (field w 7 1) 0) (plainOf w addr) (extraOf w addr))
 
--- the rows of a condition below 15, by 27:25; "Load/store, 27:25 = 010, or 011 with bit 4 clear", "Media, 27:25 = 011, bit 4 set"
+-- the rows of a condition below 15, by 27:25; "Load/store, 27:25 = 010, or 011 with bit 4 clear", "Media, 27:25 = 011, bit 4 set"; 02, P9: 27:26 = 11
 unfoldable pub groupOf : ℕ → ℕ → Decoded
 groupOf w addr =
     among (field w 25 3)
@@ -55,14 +56,14 @@ groupOf w addr =
     3 ⇒ pick (eqb (field w 4 1) 0) (ldstOf w addr) (mediaOf w addr) ∷
     4 ⇒ blockOf w addr ∷
     5 ⇒ branchOf w addr ∷
+    6 ⇒ coprocOf w addr ∷
+    7 ⇒ coprocOf w addr ∷
     []
     )
 
--- refusal 2: "condition below 15 and bits 27:26 = 11"; 3: "any other word no row below accepts"
+-- refusal 3: "any other word no row below accepts"
 unfoldable pub decodeOf : ℕ → ℕ → Decoded
-decodeOf w addr =
-    pick (eqb (field w 28 4) 15) (unconditionalOf w addr)
-    (pick (eqb (field w 26 2) 3) (refused COPROCESSOR) (groupOf w addr))
+decodeOf w addr = pick (eqb (field w 28 4) 15) (unconditionalOf w addr) (groupOf w addr)
 
 -- refusal 1: "fewer than 4 (more than 4: the first four, low byte first)"
 abbrev pub decodeBytesOf : List ℕ → ℕ → Decoded

@@ -2,6 +2,7 @@
 //!
 //! The top-level split follows the architecture reference manual's A5 decode tree on bits 27:25, and each group below is
 //! one of its tables. Condition 15 is not a condition at all but a second instruction space, so it leaves first.
+use a32_coproc::coproc;
 use a32_dp::dp_imm::dp_imm;
 use a32_dp::dp_reg::dp_reg;
 use a32_ldst::extra_ldst::extra_ldst;
@@ -18,8 +19,6 @@ use insn::Decoded;
 use insn::refuse;
 use word::bit;
 use word::bits;
-use word::refusal::COPROCESSOR;
-use word::refusal::NO_ROW;
 use word::refusal::SHORT;
 use word::word_at;
 ghost use mathlib.Core.Path.{_≡_};
@@ -41,12 +40,8 @@ pub fn decode(w: u32, addr: u64) -> Decoded
     ensures { λ r. ⌜ r ≡ decodeOf w addr ⌝ }
 {
     let cond = bits(w, 31, 28);
-    let coprocessor = bits(w, 27, 26);
     if cond == 15 {
         return unconditional(w, addr);
-    }
-    if coprocessor == 0b11 {
-        return refuse(COPROCESSOR);
     }
     group(w, addr)
 }
@@ -69,7 +64,7 @@ fn group(w: u32, addr: u64) -> Decoded
         }
         0b100 => block(w, addr),
         0b101 => branch(w, addr),
-        _ => refuse(NO_ROW),
+        _ => coproc(w, addr),
     }
 }
 

@@ -12,7 +12,8 @@ use Rattle.insn.specs.declared.Index.the-variants.{Absent, Left}
 use Rattle.insn.specs.declared.Mem.{Mem}
 use Rattle.insn.specs.declared.Operand.{Operand}
 use Rattle.insn.specs.declared.Operand.the-variants.{Empty, Register, Shifted, ShiftBy, SaturateShift, Rotate, Count, Number, StatusMask}
-use Rattle.insn.specs.declared.Operand.the-variants.{StatusSource, WriteBack, List as RegisterList, Address, Memory, Option}
+use Rattle.insn.specs.declared.Operand.the-variants.{StatusSource, WriteBack, List as RegisterList, Address, Memory, Option, Coprocessor}
+use Rattle.insn.specs.declared.Operand.the-variants.{CoprocessorRegister}
 use Rattle.insn.specs.declared.Place.{Place}
 use Rattle.insn.specs.declared.Insn.{Insn}
 use Rattle.insn.specs.declared.Decoded.{Decoded}
@@ -48,7 +49,8 @@ memNumbers m =
     []
 
 -- "a register, shifted register, shift by register, saturate shift, rotate, signed count, unsigned number, status mask,
--- status source, write-back register, register list, address, or memory form", from 1 on; 02, P1: "a new kind, the option"
+-- status source, write-back register, register list, address, or memory form", from 1 on; 02, P1: "a new kind, the option";
+-- P9: a coprocessor, and a register of one
 abbrev pub operandNumbers : Operand → List ℕ
 operandNumbers Empty = 0 ∷ []
 operandNumbers (Register r) = 1 ∷ r .0 ∷ []
@@ -65,11 +67,13 @@ operandNumbers (RegisterList n) = 11 ∷ n ∷ []
 operandNumbers (Address n) = 12 ∷ n ∷ []
 operandNumbers (Memory m) = 13 ∷ memNumbers m
 operandNumbers (Option n) = 14 ∷ n ∷ []
+operandNumbers (Coprocessor n) = 15 ∷ n ∷ []
+operandNumbers (CoprocessorRegister n) = 16 ∷ n ∷ []
 
 abbrev pub placesNumbers : List Place → List ℕ
 placesNumbers = spread operandNumbers
 
--- "address (64 bits, as given); name number; condition (the word's own 31:28); flow; four operand places"
+-- "address (64 bits, as given); name number; condition (the word's own 31:28); flow; four operand places"; 02, P9: "from four places to six"
 abbrev pub insnNumbers : Insn → List ℕ
 insnNumbers i =
     i .addr ∷ i .name ∷ i .cond .0 ∷ flowNumber (i .flow) ∷ flowTarget (i .flow) ∷ placesNumbers (i .ops)

@@ -95,6 +95,8 @@ impl State {
             Operand::Address(a) => self.byte(12).word(a),
             Operand::Memory(m) => self.byte(13).mem(m),
             Operand::Option(n) => self.byte(14).byte(n),
+            Operand::Coprocessor(n) => self.byte(15).byte(n),
+            Operand::CoprocessorRegister(n) => self.byte(16).byte(n),
         }
     }
 

@@ -50,7 +50,6 @@ module _ (w a b : ℕ) where
     where
       same : {row : ℕ → ℕ → Decoded} → Group w row → row w b ≡ at b (row w a)
       same (unconditional c) = simp (laws, other)
-      same (coprocessor c p) = simp laws
       same (misc c g is seven) = simp laws
       same (halfword c g is seven four) = simp laws
       same (dp-reg c g is seven) = simp laws
@@ -63,6 +62,7 @@ module _ (w a b : ℕ) where
       same (media c g four) = simp laws
       same (block c g) = simp laws
       same (branch c g) = absurd (eqb-false (field w 25 3) 5 other g)
+      same (coprocessor c p) = simp laws
 
   -- a branch goes as far from there
   pub target-elsewhere : field w 25 3 ≡ 5 → decodeOf w b ≡ moved a b (decodeOf w a)

@@ -16,6 +16,7 @@ use Rattle.insn.specs.declared.Insn.{Insn}
 use Rattle.insn.specs.declared.Operand.{Operand}
 use Rattle.insn.specs.declared.Operand.the-variants.{Empty, Register, Shifted, ShiftBy, SaturateShift, Rotate, Count, Number, StatusMask}
 use Rattle.insn.specs.declared.Operand.the-variants.{StatusSource, WriteBack, List as RegisterList, Address, Memory, Option}
+use Rattle.insn.specs.declared.Operand.the-variants.{Coprocessor, CoprocessorRegister}
 use Rattle.insn.specs.declared.Place.{Place}
 use Rattle.insn.proofs.Places.{places-length, place-at}
 use Rattle.a32.specs.Decode.{decodeOf}
@@ -57,6 +58,8 @@ narrow last name (Memory m) h = (
   ),
 )
 narrow last name (Option n) h = omega (arith, h .1)
+narrow last name (Coprocessor n) h = omega arith
+narrow last name (CoprocessorRegister n) h = omega arith
 
 -- the address at place 0, if one is there
 address-narrow : (last : Bool) (name : ℕ) (o : Operand) (os : List Operand) → Sound last name o → targetIn (o ∷ os) < 2 ^ 32
@@ -75,6 +78,8 @@ address-narrow last name (RegisterList n) os h = omega arith
 address-narrow last name (Address n) os h = h
 address-narrow last name (Memory m) os h = omega arith
 address-narrow last name (Option n) os h = omega arith
+address-narrow last name (Coprocessor n) os h = omega arith
+address-narrow last name (CoprocessorRegister n) os h = omega arith
 
 places-narrow : (name : ℕ) (os : List Operand) → Laid name os → targetIn os < 2 ^ 32
 places-narrow name [] h = omega arith
@@ -104,7 +109,7 @@ answer-fits i f = record {
   name = omega (arith, f .named);
   cond = omega (arith, f .under);
   target = target-narrow (f .operands) (i .flow) (places-narrow (i .name) (f .operands) (f .sound)) (f .aimed);
-  places = ap length (f .laid) ∙ places-length (f .operands) (omega (arith, f .few));
+  places = ap length (f .laid) ∙ places-length (f .operands) (f .few);
   operands = λ n.
       subst (λ (p : Place). Narrow (p .operand)) (sym (ap (λ (ops : List Place). placeAt ops n) (f .laid) ∙ place-at (f .operands) n))
       (operands-narrow (i .name) (f .operands) (f .sound) n);

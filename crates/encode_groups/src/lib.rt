@@ -1,4 +1,5 @@
-//! The words of the groups between data processing and block transfers, from their answers.
+//! The words of the groups between data processing and block transfers, and of the coprocessor instructions, from their answers.
+pub mod coproc;
 pub mod extra;
 pub mod ldst;
 pub mod media;

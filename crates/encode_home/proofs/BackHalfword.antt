@@ -65,6 +65,7 @@ module _ (w : ℕ) (bound : w < 2 ^ 32) (group : field w 25 3 ≡ 0) (ten : fiel
       simp (starts 133 138 n l h, over 133 138 n l h, under 133 138 n l h),
       simp (
         over 133 138 n l h,
+        ends 133 138 n l h,
         past,
         op-back,
         low-back,
@@ -78,6 +79,7 @@ module _ (w : ℕ) (bound : w < 2 ^ 32) (group : field w 25 3 ≡ 0) (ten : fiel
       simp (starts 141 144 n l h, over 141 144 n l h, under 141 144 n l h),
       simp (
         over 141 144 n l h,
+        ends 141 144 n l h,
         past,
         op-back,
         low-back,
@@ -87,13 +89,14 @@ module _ (w : ℕ) (bound : w < 2 ^ 32) (group : field w 25 3 ≡ 0) (ten : fiel
 
     product : eqb (field w 21 2) 2 ≡ false → leb 133 n ≡ true → leb n 148 ≡ true
         → (addr : ℕ) → putsOf ((productOf w addr n) .insn) ≡ zeros 15 12 ∷ [] → Back (zeros 15 12 ∷ []) w (productOf w addr n)
-    product short l h addr puts = unfold wordOf in (refl, puts, simp (over 133 148 n l h, past, op-back, low-back, short) whole-home)
+    product short l h addr puts = unfold wordOf in
+        (refl, puts, simp (over 133 148 n l h, ends 133 148 n l h, past, op-back, low-back, short) whole-home)
 
   smulw-puts : (n addr : ℕ) → leb 139 n ≡ true → leb n 140 ≡ true → putsOf ((productOf w addr n) .insn) ≡ zeros 15 12 ∷ []
   smulw-puts n addr l h = unfold putsOf in simp (starts 139 140 n l h, ends 139 140 n l h, over 139 140 n l h, under 139 140 n l h)
 
   smul-puts : (n addr : ℕ) → leb 145 n ≡ true → leb n 148 ≡ true → putsOf ((productOf w addr n) .insn) ≡ zeros 15 12 ∷ []
-  smul-puts n addr l h = unfold putsOf in simp (starts 145 148 n l h, ends 145 148 n l h, over 145 148 n l h)
+  smul-puts n addr l h = unfold putsOf in simp (starts 145 148 n l h, ends 145 148 n l h, over 145 148 n l h, under 145 148 n l h)
 
   -- a name from an end on, by its halves or its half
   module _ (first : ℕ) where

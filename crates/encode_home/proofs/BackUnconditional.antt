@@ -1,17 +1,16 @@
 -- Condition 15: an answer leads back to its home word, which has it too. Assumes nothing.
-use mathlib.Core.Path.{_≡_, refl, sym, subst, _∙_}
-use mathlib.Core.Bool.{Bool, true, false}
+use mathlib.Core.Path.{_≡_, refl, sym, subst}
+use mathlib.Core.Bool.{true, false}
 use mathlib.Core.List.{[], _∷_}
-use Prim.Native.Nat.{ℕ, zero, suc, _^_, _<_}
+use Prim.Native.Nat.{ℕ, _^_, _<_}
 use native.Mathlib.Omega.{arith}
-use borrow.Author.Tests.{eqb-false, ne-eqb}
+use borrow.Author.Tests.{ne-eqb}
 use lib.Dec.{T, eqb, eqb→eq}
-use lib.IntN.{pos, natAbs}
-use Rattle.word.specs.Choice.{pick, by-test}
+use lib.IntN.{natAbs}
+use Rattle.word.specs.Choice.{by-test}
 use Rattle.word.specs.Every.{left, right}
 use Rattle.word.specs.Field.{field, put, small, splits}
 use Rattle.word.specs.Layout.{join, whole}
-use Rattle.word.specs.Signed.{minus}
 use Rattle.a32_ldst.specs.Mem.{dispOf}
 use Rattle.a32_transfer.specs.Unconditional.{barrierSlot, preloadSlot, unconditionalOf}
 use Rattle.insn_parts.specs.Operands.{signNumber}
@@ -22,16 +21,9 @@ use Rattle.encode_home.specs.Table.{filled, drawn, number, ones}
 use Rattle.encode_home.specs.Home.{putsOf}
 use Rattle.encode_home.specs.Word.{wordOf}
 use Rattle.encode_home.specs.WordTransfer.{preloadLayout, barrierLayout}
-use Rattle.encode_home.proofs.Leads.{apart, Settles, refuses, settles, reads, by-value, bit-cases, refusal}
+use Rattle.encode_home.proofs.Leads.{apart, Settles, refuses, settles, reads, by-value, bit-cases, signed-back, refusal}
 use Rattle.encode_home.proofs.BackBranch.{blx-back}
 use Rattle.encode_home.proofs.Puts.{good, laid}
-
--- a displacement that is not 0 holds its magnitude and its sign
-signed-parts : (down : Bool) (off : ℕ) → eqb off 0 ≡ false
-    → (natAbs (pick down (minus off) (pos off)) ≡ off) × (up (signNumber (pick down (minus off) (pos off))) ≡ pick down 0 1)
-signed-parts down zero h = absurd (eqb-false 0 0 h refl)
-signed-parts true (suc n) h = (refl, refl)
-signed-parts false (suc n) h = (refl, refl)
 
 -- the three kinds of words are apart: 27:25 of a preload and of a barrier is 010, and 21:20 is 01 or 11
 module _ (w : ℕ) where
@@ -88,9 +80,7 @@ module _ (w : ℕ) (bound : w < 2 ^ 32) (five : field w 24 4 ≡ 5) (pc : field 
       (λ r. simp (ways, r, parts .0, parts .1, n) (λ addr. (refl, refl, word r))))
     where
       parts : (natAbs (dispOf w (field w 0 12)) ≡ field w 0 12) × (up (signNumber (dispOf w (field w 0 12))) ≡ field w 23 1)
-      parts =
-          let apart-signs = signed-parts (eqb (field w 23 1) 0) (field w 0 12) n in
-          (apart-signs .0, apart-signs .1 ∙ bit-cases w 23 (λ u. simp u) (λ u. simp u))
+      parts = signed-back w (field w 0 12) n
 
       word : {r : ℕ} → field w 22 1 ≡ r
           → join preloadLayout (field w 0 12 ∷ 15 ∷ field w 16 4 ∷ 1 ∷ r ∷ field w 23 1 ∷ 5 ∷ field w 28 4 ∷ []) ≡ w

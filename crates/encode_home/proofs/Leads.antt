@@ -6,13 +6,16 @@ use Prim.Native.Nat.{ℕ, zero, suc, _-_, _^_, Ordering, compare·suc-zero}
 use native.Mathlib.Omega.{arith}
 use borrow.Author.Tests.{lt-ltb, eqb-true, eqb-false, ltb-true, leb-true, le-leb, lt-leb}
 use lib.Dec.{T, eqb, leb, ltb, isEq}
-use lib.IntN.{natAbs}
+use lib.IntN.{pos, natAbs}
 use lib.Pow.{pow-pos}
-use Rattle.word.specs.Choice.{both, by-test}
+use Rattle.word.specs.Choice.{pick, both, by-test}
 use Rattle.word.specs.Every.{left}
 use Rattle.word.specs.Field.{field, small, put-above, put-below, put-at}
 use Rattle.word.specs.Signed.{minus}
 use Rattle.insn.specs.declared.Decoded.{Decoded}
+use Rattle.a32_ldst.specs.Mem.{dispOf}
+use Rattle.insn_parts.specs.Operands.{signNumber}
+use Rattle.insn_parts.specs.Parts.{up}
 use Rattle.encode_home.specs.declared.Filler.{Filler}
 use Rattle.encode_home.specs.declared.Filler.the-variants.{Manual, Zeros}
 use Rattle.encode_home.specs.Table.{Put, drawn, number}
@@ -43,16 +46,20 @@ pub data Settles (near : Put → Bool) (of : ℕ → ℕ → Decoded) (w : ℕ) 
 pub reads : {near : Put → Bool} {of : ℕ → ℕ → Decoded} {w : ℕ} → ((addr : ℕ) → Back [] w (of w addr)) → Settles near of w
 reads back = settles [] tt (λ addr. (λ c. refl, back addr))
 
--- by the rows that tests lead to, with the puts and without
+-- by the rows that tests lead to, with these puts and without
+pub leads-by : {near : Put → Bool} {of : ℕ → ℕ → Decoded} {w : ℕ} (of′ : ℕ → ℕ → Decoded) (ps : List Put) → T (both (all near ps) (disjoint ps))
+    → ((c : Filler) (addr : ℕ) → of (putAll c ps w) addr ≡ of′ (putAll c ps w) addr) → ((addr : ℕ) → of w addr ≡ of′ w addr)
+    → ((addr : ℕ) → ((c : Filler) → of′ (putAll c ps w) addr ≡ of′ w addr) × Back ps w (of′ w addr)) → Settles near of w
+leads-by {w = w} of′ ps t to from given =
+    settles ps t
+    (λ addr. (λ c. to c addr ∙ given addr .0 c ∙ sym (from addr), subst (λ (d : Decoded). Back ps w d) (sym (from addr)) (given addr .1)))
+
+-- with whatever puts are near
 pub leads-to : {near : Put → Bool} {of of′ : ℕ → ℕ → Decoded} {w : ℕ} → Settles near of′ w
     → ((c : Filler) (ps : List Put) → T (all near ps) → (addr : ℕ) → of (putAll c ps w) addr ≡ of′ (putAll c ps w) addr) → Settles near of w
 leads-to (refuses never-ok) to = refuses (λ addr ok. never-ok addr (subst (λ (d : Decoded). d .refusal ≡ 0) (to Zeros [] tt addr) ok))
-leads-to {near = near} {w = w} (settles ps t given) to =
-    settles ps t
-    (λ addr. (
-      λ c. to c ps (left (all near ps) (disjoint ps) t) addr ∙ given addr .0 c ∙ sym (to Zeros [] tt addr),
-      subst (λ (d : Decoded). Back ps w d) (sym (to Zeros [] tt addr)) (given addr .1),
-    ))
+leads-to {near = near} {of′ = of′} (settles ps t given) to =
+    leads-by of′ ps t (λ c. to c ps (left (all near ps) (disjoint ps) t)) (to Zeros [] tt) given
 
 -- by whether a field has a value
 pub by-value {ℓ} : {A : Type ℓ} (w lo k n : ℕ) → (field w lo k ≡ n → A) → (eqb (field w lo k) n ≡ false → A) → A
@@ -76,6 +83,18 @@ never off on = absurd (eqb-false 0 1 refl (sym off ∙ on))
 pub magnitude : (n : ℕ) → natAbs (minus n) ≡ n
 magnitude zero = refl
 magnitude (suc n) = refl
+
+-- one that is not 0 holds its magnitude and its sign, which is U
+signed-parts : (down : Bool) (off : ℕ) → eqb off 0 ≡ false
+    → (natAbs (pick down (minus off) (pos off)) ≡ off) × (up (signNumber (pick down (minus off) (pos off))) ≡ pick down 0 1)
+signed-parts down zero h = absurd (eqb-false 0 0 h refl)
+signed-parts true (suc n) h = (refl, refl)
+signed-parts false (suc n) h = (refl, refl)
+
+pub signed-back : (w off : ℕ) → eqb off 0 ≡ false → (natAbs (dispOf w off) ≡ off) × (up (signNumber (dispOf w off)) ≡ field w 23 1)
+signed-back w off some =
+    let apart-signs = signed-parts (eqb (field w 23 1) 0) off some in
+    (apart-signs .0, apart-signs .1 ∙ bit-cases w 23 (λ u. simp u) (λ u. simp u))
 
 -- an answer that is refused is not accepted
 pub refusal {ℓ} : {A : Type ℓ} {n : ℕ} → suc n ≡ 0 → A

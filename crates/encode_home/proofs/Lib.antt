@@ -9,6 +9,7 @@ pub mod BackExtra
 pub mod BackBlock
 pub mod BackBranch
 pub mod BackUnconditional
+pub mod BackCoproc
 pub mod BackMedia
 pub mod BackImm
 pub mod BackDp

@@ -1,7 +1,7 @@
 -- What the puts of an entry leave of a word: each of the table's fits its field and lies below the condition, by one test over the table. Assumes
 -- nothing.
 use mathlib.Core.Path.{_≡_, refl, sym, ap, _∙_, subst}
-use mathlib.Core.Bool.{Bool, true, false}
+use mathlib.Core.Bool.{Bool, true, false, not}
 use mathlib.Core.List.{List, [], _∷_, _++_}
 use Prim.Native.Nat.{ℕ, _+_, _-_, _^_, _<_, _≤_}
 use native.Mathlib.Omega.{arith}
@@ -26,10 +26,10 @@ all f (p ∷ ps) = both (f p) (all f ps)
 abbrev pub good : Put → Bool
 good p = both (both (ltb (value Manual p) (2 ^ p .width)) (ltb (value Zeros p) (2 ^ p .width))) (leb (p .lo + p .width) 28)
 
--- what holds of the puts of every entry holds of those that are gathered
-abbrev pub everywhere : (Put → Bool) → List Entry → Bool
-everywhere f [] = true
-everywhere f (entry ∷ entries) = both (all f (entry .puts)) (everywhere f entries)
+-- what holds of the puts of every entry, but for those that are not about an answer, holds of those that are gathered
+abbrev pub everywhere : (Put → Bool) → Insn → List Entry → Bool
+everywhere f i [] = true
+everywhere f i (entry ∷ entries) = both (pick (all f (entry .puts)) true (not (entry .about i))) (everywhere f i entries)
 
 and : (a b : Bool) → T a → T b → T (both a b)
 and true b t u = u
@@ -39,12 +39,19 @@ joined : (f : Put → Bool) (ps qs : List Put) → T (all f ps) → T (all f qs)
 joined f [] qs t u = u
 joined f (p ∷ ps) qs t u = and (f p) (all f (ps ++ qs)) (left (f p) (all f ps) t) (joined f ps qs (right (f p) (all f ps) t) u)
 
-of-gathered : (f : Put → Bool) (i : Insn) (entries : List Entry) → T (everywhere f entries) → T (all f (gathered i entries))
+of-gathered : (f : Put → Bool) (i : Insn) (entries : List Entry) → T (everywhere f i entries) → T (all f (gathered i entries))
 of-gathered f i [] t = tt
 of-gathered f i (entry ∷ entries) t =
     joined f (pick (entry .about i) (entry .puts) []) (gathered i entries)
-    (tested (λ (ps : List Put). T (all f ps)) (entry .about i) (λ about. left (all f (entry .puts)) (everywhere f entries) t) (λ other. tt))
-    (of-gathered f i entries (right (all f (entry .puts)) (everywhere f entries) t))
+    (tested (λ (ps : List Put). T (all f ps)) (entry .about i) here (λ other. tt))
+    (of-gathered f i entries (right passed (everywhere f i entries) t))
+  where
+    passed : Bool
+    passed = pick (all f (entry .puts)) true (not (entry .about i))
+
+    here : entry .about i ≡ true → T (all f (entry .puts))
+    here about =
+        by-test (all f (entry .puts)) (λ e. subst T (sym e) tt) (λ e. absurd (simp (e, about) at (left passed (everywhere f i entries) t)))
 
 pub all-good : (i : Insn) → T (all good (putsOf i))
 all-good i = unfold putsOf in of-gathered good i table tt
@@ -217,10 +224,12 @@ module _ (c : Filler) (n : ℕ) where
       is : T (good p)
       is = left (good p) (all good ps) t
 
--- a bit into which no entry of the table puts anything is the same in a home word
-pub untouched : (c : Filler) (n : ℕ) → T (everywhere (λ (p : Put). off p n) table) → (i : Insn) (w : ℕ) → field (putAll c (putsOf i) w) n 1 ≡ field w n 1
-untouched c n t i w =
-    kept-bit c n (putsOf i) (all-good i) (passes _ (unfold putsOf in of-gathered (λ (p : Put). off p n) i table t)) w
+-- a bit into which no entry about an answer puts anything is the same in its home word
+pub untouched : (c : Filler) (n : ℕ) (i : Insn) (w : ℕ) → everywhere (λ (p : Put). off p n) i table ≡ true
+    → field (putAll c (putsOf i) w) n 1 ≡ field w n 1
+untouched c n i w is =
+    kept-bit c n (putsOf i) (all-good i)
+    (passes _ (unfold putsOf in of-gathered (λ (p : Put). off p n) i table (subst T (sym is) tt))) w
 
 -- a word is its bits
 by-bits : (x y : ℕ) → x < 2 ^ 32 → y < 2 ^ 32 → ((n : ℕ) → bit x n ≡ bit y n) → x ≡ y

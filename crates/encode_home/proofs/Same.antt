@@ -6,9 +6,9 @@ use mathlib.Core.List.{List, []}
 use mathlib.Core.Logic.{_↔_}
 use Prim.Native.Nat.{ℕ, _/_, _^_, _<_}
 use native.Mathlib.Omega.{arith}
-use borrow.Author.Tests.{eqb-true, eqb-false, ne-eqb}
+use borrow.Author.Tests.{eqb-true, ne-eqb}
 use lib.Dec.{T, eqb}
-use Rattle.word.specs.Choice.{by-test, tested, parts}
+use Rattle.word.specs.Choice.{tested, parts}
 use Rattle.word.specs.Every.{right}
 use Rattle.word.specs.Field.{field, small, splits}
 use Rattle.insn.specs.Answer.{accepted}
@@ -17,14 +17,14 @@ use Rattle.insn.specs.declared.Insn.{Insn}
 use Rattle.a32_multiply.specs.Halfword.{halfwordOf}
 use Rattle.a32.specs.Decode.{decodeOf, groupOf, dpMiscOf, plainOf, extraOf, controlOf}
 use Rattle.a32.proofs.Groups as G
-use Rattle.a32.proofs.Groups.{Group, found}
+use Rattle.a32.proofs.Groups.{Group, reaches, found}
 use Rattle.encode_home.specs.declared.Filler.{Filler}
 use Rattle.encode_home.specs.declared.Filler.the-variants.{Manual, Zeros}
 use Rattle.encode_home.specs.Table.{Put}
 use Rattle.encode_home.specs.Home.{putsOf, putAll, homeOf, filledWord}
-use Rattle.encode_home.specs.Word.{wordOf}
 use Rattle.encode_home.proofs.BackBlock.{block-settles}
 use Rattle.encode_home.proofs.BackBranch.{branch-settles}
+use Rattle.encode_home.proofs.BackCoproc.{coproc-settles}
 use Rattle.encode_home.proofs.BackDpImm.{dp-imm-settles}
 use Rattle.encode_home.proofs.BackDpReg.{dp-reg-settles}
 use Rattle.encode_home.proofs.BackExtra.{extra-ldst-settles}
@@ -34,7 +34,7 @@ use Rattle.encode_home.proofs.BackMedia.{media-settles}
 use Rattle.encode_home.proofs.BackMisc.{misc-settles}
 use Rattle.encode_home.proofs.BackMultiply.{multiply-settles, sync-settles}
 use Rattle.encode_home.proofs.BackUnconditional.{unconditional-settles}
-use Rattle.encode_home.proofs.Leads.{Settles, refuses, settles, leads-to, by-value, bit-cases, two-cases, never, refusal}
+use Rattle.encode_home.proofs.Leads.{Settles, refuses, settles, leads-to, bit-cases, two-cases, never, refusal}
 use Rattle.encode_home.proofs.Puts.{all, good, all-good, disjoint, putAll-small, refilled, keeps-condition, low, keeps-upper, keeps-middle, keeps-top}
 use Rattle.encode_home.proofs.Puts.{keeps-bottom}
 
@@ -75,7 +75,7 @@ top w is = omega (arith, splits w 25 2 1, small w 25 1)
 module _ (w : ℕ) (c : eqb (field w 28 4) 15 ≡ false) (g : field w 25 3 ≡ 0) (control : controlOf w ≡ true) (four : field w 4 1 ≡ 0)
     (seven : field w 7 1 ≡ 1) where
   to-halfword : (c : Filler) (ps : List Put) → T (all low ps) → (addr : ℕ) → decodeOf (putAll c ps w) addr ≡ halfwordOf (putAll c ps w) addr
-  to-halfword filler ps t addr = unfold decodeOf groupOf dpMiscOf plainOf controlOf in simp (keeps-upper, keeps-middle, c, top w g, g, control, four, seven)
+  to-halfword filler ps t addr = unfold decodeOf groupOf dpMiscOf plainOf controlOf in simp (keeps-upper, keeps-middle, c, g, control, four, seven)
 
 -- 02, P3: "Refusals: none remain in this corner"
 pub halfword-accepted : (w addr : ℕ) → eqb (field w 28 4) 15 ≡ false → field w 25 3 ≡ 0 → controlOf w ≡ true → field w 4 1 ≡ 0 → field w 7 1 ≡ 1
@@ -110,8 +110,8 @@ module _ (w : ℕ) (bound : w < 2 ^ 32) where
           settle w bound
           (leads-to (misc-settles w bound g (ten-is control) (s-is control) seven)
           (λ filler ps t addr. bit-cases w 4
-          (λ four. simp (keeps-upper, keeps-middle, c, top w g, g, control, four, seven))
-          (λ four. simp (keeps-upper, keeps-middle, c, top w g, g, control, four, seven))))
+          (λ four. simp (keeps-upper, keeps-middle, c, g, control, four, seven))
+          (λ four. simp (keeps-upper, keeps-middle, c, g, control, four, seven))))
 
       halfword : controlOf w ≡ true → field w 4 1 ≡ 0 → field w 7 1 ≡ 1 → Settled w bound
       halfword control four seven =
@@ -122,31 +122,31 @@ module _ (w : ℕ) (bound : w < 2 ^ 32) where
           settle w bound
           (leads-to (dp-reg-settles w bound g control seven)
           (λ filler ps t addr. bit-cases w 4
-          (λ four. simp (keeps-upper, keeps-middle, c, top w g, g, control, four))
-          (λ four. simp (keeps-upper, keeps-middle, c, top w g, g, control, four, seven four))))
+          (λ four. simp (keeps-upper, keeps-middle, c, g, control, four))
+          (λ four. simp (keeps-upper, keeps-middle, c, g, control, four, seven four))))
 
       module _ (four : field w 4 1 ≡ 1) (seven : field w 7 1 ≡ 1) where
         multiply : field w 5 2 ≡ 0 → field w 24 1 ≡ 0 → Settled w bound
         multiply kind p = unfold decodeOf groupOf dpMiscOf extraOf in
             settle w bound (leads-to (multiply-settles w bound g seven four kind p)
-            (λ filler ps t addr. simp (keeps-upper, keeps-middle, c, top w g, g, four, seven, kind, p)))
+            (λ filler ps t addr. simp (keeps-upper, keeps-middle, c, g, four, seven, kind, p)))
 
         sync : field w 5 2 ≡ 0 → field w 24 1 ≡ 1 → Settled w bound
         sync kind p = unfold decodeOf groupOf dpMiscOf extraOf in
             settle w bound (leads-to (sync-settles w bound g seven four kind p)
-            (λ filler ps t addr. simp (keeps-upper, keeps-middle, c, top w g, g, four, seven, kind, p)))
+            (λ filler ps t addr. simp (keeps-upper, keeps-middle, c, g, four, seven, kind, p)))
 
         extra-ldst : eqb (field w 5 2) 0 ≡ false → Settled w bound
         extra-ldst other = unfold decodeOf groupOf dpMiscOf extraOf in
             settle w bound (leads-to (extra-ldst-settles w bound g seven four other)
-            (λ filler ps t addr. simp (keeps-upper, keeps-middle, c, top w g, g, four, seven, other)))
+            (λ filler ps t addr. simp (keeps-upper, keeps-middle, c, g, four, seven, other)))
 
     dp-imm : field w 25 3 ≡ 1 → Settled w bound
-    dp-imm g = unfold decodeOf groupOf in settle w bound (leads-to (dp-imm-settles w bound g) (λ filler ps t addr. simp (keeps-upper, c, top w g, g)))
+    dp-imm g = unfold decodeOf groupOf in settle w bound (leads-to (dp-imm-settles w bound g) (λ filler ps t addr. simp (keeps-upper, c, g)))
 
     ldst : field w 25 3 ≡ 2 → Settled w bound
     unfolding decodeOf groupOf
-    ldst g = settle w bound (leads-to (ldst-settles w bound (top w g) (λ set. never clear-25 set)) (λ filler ps t addr. simp (keeps-top, c, top w g, g)))
+    ldst g = settle w bound (leads-to (ldst-settles w bound (top w g) (λ set. never clear-25 set)) (λ filler ps t addr. simp (keeps-top, c, g)))
       where
         clear-25 : field w 25 1 ≡ 0
         clear-25 = omega (arith, splits w 25 2 1, small w 25 1)
@@ -154,27 +154,28 @@ module _ (w : ℕ) (bound : w < 2 ^ 32) where
     ldst-index : field w 25 3 ≡ 3 → field w 4 1 ≡ 0 → Settled w bound
     unfolding decodeOf groupOf
     ldst-index g four =
-        settle w bound (leads-to (ldst-settles w bound (top w g) (λ set. four)) (λ filler ps t addr. simp (keeps-top, keeps-bottom, c, top w g, g, four)))
+        settle w bound (leads-to (ldst-settles w bound (top w g) (λ set. four)) (λ filler ps t addr. simp (keeps-top, keeps-bottom, c, g, four)))
 
     media : field w 25 3 ≡ 3 → field w 4 1 ≡ 1 → Settled w bound
     unfolding decodeOf groupOf
-    media g four = settle w bound (leads-to (media-settles w bound g four) (λ filler ps t addr. simp (keeps-upper, keeps-middle, c, top w g, g, four)))
+    media g four = settle w bound (leads-to (media-settles w bound g four) (λ filler ps t addr. simp (keeps-upper, keeps-middle, c, g, four)))
 
     block : field w 25 3 ≡ 4 → Settled w bound
-    block g = unfold decodeOf groupOf in settle w bound (leads-to (block-settles w bound g) (λ filler ps t addr. simp (keeps-upper, c, top w g, g)))
+    block g = unfold decodeOf groupOf in settle w bound (leads-to (block-settles w bound g) (λ filler ps t addr. simp (keeps-upper, c, g)))
 
     branch : field w 25 3 ≡ 5 → Settled w bound
-    branch g = unfold decodeOf groupOf in settle w bound (leads-to (branch-settles w bound g) (λ filler ps t addr. simp (keeps-upper, c, top w g, g)))
+    branch g = unfold decodeOf groupOf in settle w bound (leads-to (branch-settles w bound g) (λ filler ps t addr. simp (keeps-upper, c, g)))
 
     coprocessor : field w 26 2 ≡ 3 → Settled w bound
-    coprocessor p = unfold decodeOf in settle w bound {near = good} (refuses (λ addr ok. refusal (simp (c, p) at ok)))
+    coprocessor p =
+        settle w bound (leads-to (coproc-settles w bound)
+        (λ filler ps t addr. reaches (putAll filler ps w) (G.coprocessor (simp keeps-top c) (simp keeps-top p)) addr))
 
   settled : Settled w bound
   settled = of (found w .1)
     where
       of : {row : ℕ → ℕ → Decoded} → Group w row → Settled w bound
       of (G.unconditional c) = unconditional c
-      of (G.coprocessor c p) = coprocessor c p
       of (G.misc c g control seven) = misc c g control seven
       of (G.halfword c g control seven four) = halfword c g control four seven
       of (G.dp-reg c g control seven) = register c g control seven
@@ -187,6 +188,7 @@ module _ (w : ℕ) (bound : w < 2 ^ 32) where
       of (G.media c g four) = media c g four
       of (G.block c g) = block c g
       of (G.branch c g) = branch c g
+      of (G.coprocessor c p) = coprocessor c p
 
 -- the home word of a word has the word's answer, under either filler
 pub home-decodes : (c : Filler) (w addr : ℕ) → w < 2 ^ 32 → decodeOf (homeOf c w) addr ≡ decodeOf w addr

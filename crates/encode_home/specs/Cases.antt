@@ -1,4 +1,5 @@
--- 01, "Proved cases", 13: "e5110000 has home e5910000; e4110000 keeps its own"; and words of each field that the manual draws (02, P5).
+-- 01, "Proved cases", 13: "e5110000 has home e5910000; e4110000 keeps its own"; words of each field that the manual draws (02, P5); and coprocessor
+-- words (02, P9).
 use mathlib.Core.Path.{_≡_, refl}
 use mathlib.Core.List.{List, [], _∷_, map}
 use Prim.Native.Nat.{ℕ}
@@ -8,6 +9,7 @@ use Rattle.a32_dp.specs.DpImm.{hintSlot}
 use Rattle.a32_ldst.specs.Mem.{unprivilegedOf, postOf, minusZeroOf}
 use Rattle.a32_ldst.specs.Ldst.{refusedIndexOf, markedOf}
 use Rattle.a32_transfer.specs.Unconditional.{barrierSlot}
+use Rattle.a32_coproc.specs.Coproc.{floatingOf}
 use Rattle.a32.specs.Decode.{decodeOf, groupOf, dpMiscOf, plainOf, controlOf, extraOf}
 use Rattle.encode_home.specs.declared.Filler.the-variants.{Manual, Zeros}
 use Rattle.encode_home.specs.Home.{putsOf, homeOf}
@@ -41,11 +43,17 @@ cases =
     case 0xe1900f9f 0xe1900f9f 0xe1900090 ∷
     case 0xe1800f90 0xe1800f90 0xe1800090 ∷
     case 0xf57ff01f 0xf57ff01f 0xf57ff010 ∷
+    -- mcr; stc with P clear; ldc of offset 0 in each mode
+    case 0xee070f9a 0xee070f9a 0xee070f9a ∷
+    case 0xec800101 0xeca00101 0xeca00101 ∷
+    case 0xec300100 0xecb00100 0xecb00100 ∷
+    case 0xed100100 0xed900100 0xed900100 ∷
+    case 0xed300100 0xedb00100 0xedb00100 ∷
     []
 
 pub homes :
     (map (λ (c : Case). homeOf Manual (c .word)) cases ≡ map (λ (c : Case). c .drawn) cases)
     × (map (λ (c : Case). homeOf Zeros (c .word)) cases ≡ map (λ (c : Case). c .zeros) cases)
-unfolding field put leastOf hintSlot unprivilegedOf postOf minusZeroOf refusedIndexOf markedOf barrierSlot decodeOf groupOf dpMiscOf plainOf controlOf
-    extraOf putsOf homeOf
+unfolding field put leastOf hintSlot unprivilegedOf postOf minusZeroOf refusedIndexOf markedOf barrierSlot floatingOf decodeOf groupOf dpMiscOf plainOf
+    controlOf extraOf putsOf homeOf
 homes = (refl, refl)

@@ -6,6 +6,7 @@ pub mod WordExtra
 pub mod WordLdst
 pub mod WordMedia
 pub mod WordTransfer
+pub mod WordCoproc
 pub mod Word
 pub mod Table
 pub mod Home

@@ -1,4 +1,4 @@
--- 01, "Home words", and 02, P1, P3, P4 and P5, as a table: an entry says which answers it is about, and what their home words have in which fields.
+-- 01, "Home words", and 02, P1, P3 to P5 and P9, as a table: an entry says which answers it is about, and what their home words have in which fields.
 use mathlib.Core.Bool.{Bool, true, false, not}
 use mathlib.Core.List.{List, [], _∷_}
 use Prim.Native.Nat.{ℕ, _+_, _-_, _^_}
@@ -71,6 +71,13 @@ indexed f = eqb (f .how) 1
 abbrev pub nothing : Flat → Bool
 nothing f = both (eqb (f .how) 0) (both (eqb (f .mode) 0) (eqb (f .value) 0))
 
+-- one in post mode; and one whose displacement is 0
+abbrev pub post : Flat → Bool
+post f = eqb (f .mode) 2
+
+abbrev pub still : Flat → Bool
+still f = eqb (f .value) 0
+
 abbrev either : Bool → Bool → Bool
 either true b = true
 either false b = b
@@ -128,5 +135,8 @@ table =
     -- "In addition bit 23 is set in load/store (not extra) immediate offset mode and preloads when 11:0 is 0."
     (names "ldr" "strbt" and operand 1 nothing ⇒ ones 23 23 ∷ []) ∷
     (names "pld" "pldw" and operand 0 nothing ⇒ ones 23 23 ∷ []) ∷
+    -- 02, P9: "at home, W is set when P is clear, and U is set when the offset is 0"
+    (names "ldc" "stcl" and operand 2 post ⇒ ones 21 21 ∷ []) ∷
+    (names "ldc" "stcl" and operand 2 still ⇒ ones 23 23 ∷ []) ∷
     -- "All other rows ignore nothing."
     []

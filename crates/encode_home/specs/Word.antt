@@ -13,6 +13,7 @@ use Rattle.encode_home.specs.WordExtra.{extraWord}
 use Rattle.encode_home.specs.WordLdst.{ldstWord}
 use Rattle.encode_home.specs.WordMedia.{mediaWord}
 use Rattle.encode_home.specs.WordTransfer.{blockWord, branchWord, blxWord, preloadWord, barrierWord}
+use Rattle.encode_home.specs.WordCoproc.{coprocWord}
 
 -- msr has one form in two groups
 abbrev pub statusWord : Insn → ℕ
@@ -30,4 +31,5 @@ wordOf i =
     (pick (leb (i .name) (name "uxtah")) (mediaWord i)
     (pick (leb (i .name) (name "push")) (blockWord i)
     (pick (leb (i .name) (name "pldw")) (preloadWord i)
-    (pick (leb (i .name) (name "isb")) (barrierWord i) (halfwordWord i))))))))))
+    (pick (leb (i .name) (name "isb")) (barrierWord i)
+    (pick (leb (i .name) (name "smultt")) (halfwordWord i) (coprocWord i)))))))))))

@@ -16,6 +16,7 @@ use Rattle.encode_home.specs.WordExtra.{extraWord}
 use Rattle.encode_home.specs.WordLdst.{ldstWord}
 use Rattle.encode_home.specs.WordMedia.{mediaWord}
 use Rattle.encode_home.specs.WordTransfer.{blockWord, branchWord, blxWord, preloadWord, barrierWord}
+use Rattle.encode_home.specs.WordCoproc.{coprocWord}
 
 -- a name from a number on, and up to one, against another
 beyond : (lo n : ℕ) → leb lo n ≡ true → (k : ℕ) → ltb k lo ≡ true → leb n k ≡ false
@@ -60,8 +61,11 @@ module _ (i : Insn) (plain : isAddress (at i 0) ≡ false) where
   pub named-barrier : inside 129 132 (i .name) ≡ true → wordOf i ≡ barrierWord i
   named-barrier is = unfold wordOf in simp (plain, after 129 132 is, within 129 132 is)
 
-  pub named-halfword : (hi : ℕ) → inside 133 hi (i .name) ≡ true → wordOf i ≡ halfwordWord i
-  named-halfword hi is = unfold wordOf in simp (plain, after 133 hi is)
+  pub named-halfword : inside 133 148 (i .name) ≡ true → wordOf i ≡ halfwordWord i
+  named-halfword is = unfold wordOf in simp (plain, after 133 148 is, within 133 148 is)
+
+  pub named-coproc : (hi : ℕ) → inside 149 hi (i .name) ≡ true → wordOf i ≡ coprocWord i
+  named-coproc hi is = unfold wordOf in simp (plain, after 149 hi is)
 
 pub named-address : (i : Insn) → isAddress (at i 0) ≡ true → wordOf i ≡ pick (eqb (i .name) (name "blx")) (blxWord i) (branchWord i)
 named-address i goes = unfold wordOf in simp goes

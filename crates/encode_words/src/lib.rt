@@ -3,6 +3,7 @@ use crate::fill::draw;
 use encode_dp::dp_word;
 use encode_dp::msr_immediate_word;
 use encode_dp::wide_word;
+use encode_groups::coproc::coproc_word;
 use encode_groups::extra::extra_word;
 use encode_groups::ldst::ldst_word;
 use encode_groups::media::media_word;
@@ -103,5 +104,8 @@ fn word_of(i: Insn) -> u32
     if n <= name::ISB {
         return barrier_word(i);
     }
-    halfword_word(i)
+    if n < name::MRC {
+        return halfword_word(i);
+    }
+    coproc_word(i)
 }

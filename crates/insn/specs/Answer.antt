@@ -11,9 +11,9 @@ use Rattle.insn.specs.declared.Operand.the-variants.{Empty}
 use Rattle.insn.specs.declared.Insn.{Insn}
 use Rattle.insn.specs.declared.Decoded.{Decoded}
 
--- how many operand places an instruction has
+-- how many operand places an instruction has: "every instruction value grows from four places to six" (02, P9)
 abbrev pub PLACES : ℕ
-PLACES = 4
+PLACES = 6
 
 -- a place with an operand, and one that is not used
 abbrev pub used : Operand → Place

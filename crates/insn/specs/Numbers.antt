@@ -8,7 +8,8 @@ use Rattle.insn.specs.declared.AddrMode.{AddrMode}
 use Rattle.insn.specs.declared.AddrMode.the-variants.{Offset, PreIndex, PostIndex}
 use Rattle.insn.specs.declared.Operand.{Operand}
 use Rattle.insn.specs.declared.Operand.the-variants.{Empty, Register, Shifted, ShiftBy, SaturateShift, Rotate, Count, Number, StatusMask}
-use Rattle.insn.specs.declared.Operand.the-variants.{StatusSource, WriteBack, List, Address, Memory, Option}
+use Rattle.insn.specs.declared.Operand.the-variants.{StatusSource, WriteBack, List, Address, Memory, Option, Coprocessor}
+use Rattle.insn.specs.declared.Operand.the-variants.{CoprocessorRegister}
 use Rattle.insn.specs.declared.Flow.{Flow}
 use Rattle.insn.specs.declared.Flow.the-variants.{Next, Branch, CondBranch, IndirectBranch, Call, IndirectCall, Return, Trap}
 
@@ -31,7 +32,8 @@ modeNumber PreIndex = 1
 modeNumber PostIndex = 2
 
 -- "a register, shifted register, shift by register, saturate shift, rotate, signed count, unsigned number, status mask,
--- status source, write-back register, register list, address, or memory form", from 1 on; 02, P1: "a new kind, the option"
+-- status source, write-back register, register list, address, or memory form", from 1 on; 02, P1: "a new kind, the option";
+-- P9: a coprocessor, and a register of one
 abbrev pub operandNumber : Operand → ℕ
 operandNumber Empty = 0
 operandNumber (Register r) = 1
@@ -48,6 +50,8 @@ operandNumber (List n) = 11
 operandNumber (Address n) = 12
 operandNumber (Memory m) = 13
 operandNumber (Option n) = 14
+operandNumber (Coprocessor n) = 15
+operandNumber (CoprocessorRegister n) = 16
 
 -- "flow (next jump jump? ijump call icall ret trap)"
 abbrev pub flowNumber : Flow → ℕ

@@ -1,6 +1,7 @@
 -- The roots of the names (01, "What is built": "Roots, suffixes, the 32 status masks and the shift names are fixed tables"), copied as facts
 -- from a32.rs and mod.rs of source document 000, the 129 in the order in which it first spells them, then the barriers; the halfword multiplies,
--- which are not there, from 02, P3. A name's number is the place of its root.
+-- which are not there, from 02, P3; last the coprocessor words (P9), in the order in which mod.rs spells them. A name's number is the place of its
+-- root.
 use mathlib.Core.List.{List, [], _∷_}
 use Prim.Native.Nat.{ℕ, suc}
 use Prim.Native.String.{String}
@@ -28,7 +29,8 @@ roots =
     "stm" ∷ "stmdb" ∷ "stmib" ∷ "pop" ∷ "push" ∷ "bl" ∷ "b" ∷ "pld" ∷
     "pldw" ∷ "clrex" ∷ "dsb" ∷ "dmb" ∷ "isb" ∷ "smlabb" ∷ "smlabt" ∷ "smlatb" ∷
     "smlatt" ∷ "smlawb" ∷ "smlawt" ∷ "smulwb" ∷ "smulwt" ∷ "smlalbb" ∷ "smlalbt" ∷ "smlaltb" ∷
-    "smlaltt" ∷ "smulbb" ∷ "smulbt" ∷ "smultb" ∷ "smultt" ∷
+    "smlaltt" ∷ "smulbb" ∷ "smulbt" ∷ "smultb" ∷ "smultt" ∷ "mrc" ∷ "mcr" ∷ "cdp" ∷
+    "mrrc" ∷ "mcrr" ∷ "ldc" ∷ "ldcl" ∷ "stc" ∷ "stcl" ∷
     []
 
 abbrev pub NAMES : ℕ

@@ -196,6 +196,10 @@ pub enum Operand {
     Memory(Mem),
     /// The option of a barrier, bits 3:0.
     Option(u8),
+    /// A coprocessor.
+    Coprocessor(u8),
+    /// A register of a coprocessor.
+    CoprocessorRegister(u8),
 }
 
 impl Operand {
@@ -218,6 +222,8 @@ impl Operand {
             Operand::Address(_) => 12,
             Operand::Memory(_) => 13,
             Operand::Option(_) => 14,
+            Operand::Coprocessor(_) => 15,
+            Operand::CoprocessorRegister(_) => 16,
         }
     }
 }
@@ -281,7 +287,7 @@ impl Flow {
 }
 
 /// How many operand places an instruction has.
-pub const PLACES: usize = 4;
+pub const PLACES: usize = 6;
 
 /// A decoded instruction.
 pub struct Insn {

@@ -290,3 +290,22 @@ pub const SMULWB: u16 = 139;
 pub const SMLALBB: u16 = 141;
 
 pub const SMULBB: u16 = 145;
+
+// coproc. In `ldcl` and `stcl` the condition stands before the `l`.
+pub const MRC: u16 = 149;
+
+pub const MCR: u16 = 150;
+
+pub const CDP: u16 = 151;
+
+pub const MRRC: u16 = 152;
+
+pub const MCRR: u16 = 153;
+
+pub const LDC: u16 = 154;
+
+pub const LDCL: u16 = 155;
+
+pub const STC: u16 = 156;
+
+pub const STCL: u16 = 157;

@@ -9,6 +9,7 @@ use Rattle.insn.specs.declared.Mem.{Mem}
 use Rattle.insn.specs.declared.Operand.{Operand}
 use Rattle.insn.specs.declared.Operand.the-variants.{Empty, Register, Shifted, ShiftBy, SaturateShift, Rotate, Count, Number, StatusMask}
 use Rattle.insn.specs.declared.Operand.the-variants.{StatusSource, WriteBack, List as RegisterList, Address, Memory, Option}
+use Rattle.insn.specs.declared.Operand.the-variants.{Coprocessor, CoprocessorRegister}
 use Rattle.insn_parts.specs.declared.Flat.{Flat}
 
 -- whether a signed number is negative
@@ -79,3 +80,5 @@ operandFlat (RegisterList n) = plainFlat 11 0 0 0 0 n
 operandFlat (Address n) = plainFlat 12 0 0 0 0 n
 operandFlat (Memory m) = memFlat m
 operandFlat (Option n) = plainFlat 14 0 0 n 0 0
+operandFlat (Coprocessor n) = plainFlat 15 0 0 n 0 0
+operandFlat (CoprocessorRegister n) = plainFlat 16 0 0 n 0 0

@@ -15,7 +15,7 @@ pub struct Flat {
     pub reg: u8,
     /// The kind of a shift, the status register, or whether a memory reference has an index.
     pub how: u8,
-    /// The amount of a shift, of a rotation or of an index, a status mask, or a barrier's option.
+    /// The amount of a shift, of a rotation or of an index, a status mask, a barrier's option, or the number of a coprocessor or of its register.
     pub amount: u8,
     pub negative: u8,
     /// A number, without its sign.
@@ -47,6 +47,8 @@ pub fn flatten(o: Operand) -> Flat
         Operand::Address(a) => plain(12, 0, 0, 0, 0, word(a)),
         Operand::Memory(m) => memory(m),
         Operand::Option(n) => plain(14, 0, 0, n, 0, 0),
+        Operand::Coprocessor(n) => plain(15, 0, 0, n, 0, 0),
+        Operand::CoprocessorRegister(n) => plain(16, 0, 0, n, 0, 0),
     }
 }
 

@@ -19,6 +19,7 @@ use Rattle.insn.specs.declared.Mem.{Mem}
 use Rattle.insn.specs.declared.Operand.{Operand}
 use Rattle.insn.specs.declared.Operand.the-variants.{Empty, Register, Shifted, ShiftBy, SaturateShift, Rotate, Count, Number, StatusMask}
 use Rattle.insn.specs.declared.Operand.the-variants.{StatusSource, WriteBack, List as RegisterList, Address, Memory, Option}
+use Rattle.insn.specs.declared.Operand.the-variants.{Coprocessor, CoprocessorRegister}
 use Rattle.insn.specs.declared.Place.{Place}
 use Rattle.insn.specs.declared.Reg.{Reg}
 use Rattle.insn.specs.declared.Status.{Status}
@@ -55,6 +56,8 @@ Narrow (RegisterList n) = n < 2 ^ 16
 Narrow (Address n) = n < 2 ^ 32
 Narrow (Memory m) = (m .base .0 < 2 ^ 8) × (Indexed (m .index) × ((magnitude (m .disp) < 2 ^ 63) × (m .size < 2 ^ 8)))
 Narrow (Option n) = n < 2 ^ 8
+Narrow (Coprocessor n) = n < 2 ^ 8
+Narrow (CoprocessorRegister n) = n < 2 ^ 8
 
 -- and so do those of each operand, and all of an instruction
 pub record Fits (i : Insn) : Type 0 where
@@ -115,6 +118,8 @@ operand-back (RegisterList n) h = ap (λ (x : ℕ). RegisterList x) (plain-back 
 operand-back (Address n) h = ap (λ (x : ℕ). Address x) (plain-back h)
 operand-back (Memory m) h = ap (λ (x : Mem). Memory x) (mem-back m h)
 operand-back (Option n) h = ap (λ (x : ℕ). Option x) (mod-eq-of-lt h)
+operand-back (Coprocessor n) h = ap (λ (x : ℕ). Coprocessor x) (mod-eq-of-lt h)
+operand-back (CoprocessorRegister n) h = ap (λ (x : ℕ). CoprocessorRegister x) (mod-eq-of-lt h)
 
 -- an operand is read from its own numbers, whatever stands before them
 head-at : (xs ys : List ℕ) → getD (xs ++ ys) (length xs) 0 ≡ getD ys 0 0

@@ -5,6 +5,7 @@ use lib.IntN.{ℤ, pos, negsuc, natAbs}
 use Rattle.insn.specs.declared.Operand.{Operand}
 use Rattle.insn.specs.declared.Operand.the-variants.{Empty, Register, Shifted, ShiftBy, SaturateShift, Rotate, Count, Number, StatusMask}
 use Rattle.insn.specs.declared.Operand.the-variants.{StatusSource, WriteBack, List as RegisterList, Address, Memory, Option}
+use Rattle.insn.specs.declared.Operand.the-variants.{Coprocessor, CoprocessorRegister}
 use Rattle.insn_parts.specs.Operands.{signNumber, operandFlat}
 
 signed : (z : ℤ) → signNumber z ≤ natAbs z
@@ -27,3 +28,5 @@ sign-below (RegisterList n) = omega arith
 sign-below (Address n) = omega arith
 sign-below (Memory m) = signed (m .disp)
 sign-below (Option n) = omega arith
+sign-below (Coprocessor n) = omega arith
+sign-below (CoprocessorRegister n) = omega arith

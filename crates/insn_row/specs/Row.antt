@@ -14,8 +14,8 @@ use Rattle.insn.specs.declared.Insn.{Insn}
 use Rattle.insn_parts.specs.declared.Flat.{Flat}
 use Rattle.insn_parts.specs.Operands.{operandFlat}
 
--- an operand's eleven numbers: kind; register or base; shift's kind, status register or whether there is an index; amount, mask or option; sign;
--- value or displacement, of a negative one its complement: minus one is a sign and 0
+-- an operand's eleven numbers: kind; register or base; shift's kind, status register or whether there is an index; amount, mask, option or
+-- coprocessor's number; sign; value or displacement, of a negative one its complement: minus one is a sign and 0
 abbrev pub firstRow : Flat → List ℕ
 firstRow f = f .kind ∷ f .reg ∷ f .how ∷ f .amount ∷ f .negative ∷ (f .value - f .negative) ∷ []
 

@@ -22,6 +22,7 @@ use Rattle.insn.specs.declared.Mem.{Mem}
 use Rattle.insn.specs.declared.Operand.{Operand}
 use Rattle.insn.specs.declared.Operand.the-variants.{Empty, Register, Shifted, ShiftBy, SaturateShift, Rotate, Count, Number, StatusMask}
 use Rattle.insn.specs.declared.Operand.the-variants.{StatusSource, WriteBack, List as RegisterList, Address, Memory, Option}
+use Rattle.insn.specs.declared.Operand.the-variants.{Coprocessor, CoprocessorRegister}
 use Rattle.insn.specs.declared.Place.{Place}
 use Rattle.insn.specs.declared.Flow.{Flow}
 use Rattle.insn.specs.declared.Flow.the-variants.{Next, Branch, CondBranch, IndirectBranch, Call, IndirectCall, Return, Trap}
@@ -114,7 +115,9 @@ operandBack f =
     (pick (eqb (f .kind) 10) (WriteBack (record { 0 = f .reg }))
     (pick (eqb (f .kind) 11) (RegisterList (f .value))
     (pick (eqb (f .kind) 12) (Address (f .value))
-    (pick (eqb (f .kind) 13) (Memory (memBack f)) (Option (f .amount)))))))))))))))
+    (pick (eqb (f .kind) 13) (Memory (memBack f))
+    (pick (eqb (f .kind) 14) (Option (f .amount))
+    (pick (eqb (f .kind) 15) (Coprocessor (f .amount)) (CoprocessorRegister (f .amount)))))))))))))))))
 
 operand-back : (o : Operand) → operandBack (operandFlat o) ≡ o
 operand-back Empty = refl
@@ -132,6 +135,8 @@ operand-back (RegisterList n) = refl
 operand-back (Address n) = refl
 operand-back (Memory m) = ap (λ (x : Mem). Memory x) (mem-back m)
 operand-back (Option n) = refl
+operand-back (Coprocessor n) = refl
+operand-back (CoprocessorRegister n) = refl
 
 abbrev flowBack : ℕ → ℕ → Flow
 flowBack n a =

@@ -6,6 +6,7 @@ use Rattle.insn.specs.Numbers.{operandNumber}
 use Rattle.insn.specs.declared.Operand.{Operand}
 use Rattle.insn.specs.declared.Operand.the-variants.{Empty, Register, Shifted, ShiftBy, SaturateShift, Rotate, Count, Number, StatusMask}
 use Rattle.insn.specs.declared.Operand.the-variants.{StatusSource, WriteBack, List, Address, Memory, Option}
+use Rattle.insn.specs.declared.Operand.the-variants.{Coprocessor, CoprocessorRegister}
 use Rattle.insn_parts.specs.declared.Flat.{Flat}
 use Rattle.insn_parts.specs.Operands.{plainFlat, operandFlat}
 use Rattle.insn_same.specs.Same.{sameEnds}
@@ -26,6 +27,8 @@ kind-is (List n) = refl
 kind-is (Address n) = refl
 kind-is (Memory m) = refl
 kind-is (Option n) = refl
+kind-is (Coprocessor n) = refl
+kind-is (CoprocessorRegister n) = refl
 
 pub none-is : (o : Operand) → operandNumber o ≡ 0 → o ≡ Empty
 none-is Empty h = refl
@@ -43,6 +46,8 @@ none-is (List n) h = absurd (omega arith)
 none-is (Address n) h = absurd (omega arith)
 none-is (Memory m) h = absurd (omega arith)
 none-is (Option n) h = absurd (omega arith)
+none-is (Coprocessor n) h = absurd (omega arith)
+none-is (CoprocessorRegister n) h = absurd (omega arith)
 
 pub register-is : (o : Operand) → operandNumber o ≡ 1 → operandFlat o ≡ plainFlat 1 (operandFlat o .reg) 0 0 0 0
 register-is Empty h = absurd (omega arith)
@@ -60,6 +65,8 @@ register-is (List n) h = absurd (omega arith)
 register-is (Address n) h = absurd (omega arith)
 register-is (Memory m) h = absurd (omega arith)
 register-is (Option n) h = absurd (omega arith)
+register-is (Coprocessor n) h = absurd (omega arith)
+register-is (CoprocessorRegister n) h = absurd (omega arith)
 
 -- only a memory form has numbers after the first six
 abbrev Plain : Flat → Type 0
@@ -81,6 +88,8 @@ plain-is (List n) h = refl
 plain-is (Address n) h = refl
 plain-is (Memory m) h = absurd (h refl)
 plain-is (Option n) h = refl
+plain-is (Coprocessor n) h = refl
+plain-is (CoprocessorRegister n) h = refl
 
 pub plain-ends : (x y : Operand) → (operandNumber x ≡ 13 → ⊥) → (operandNumber y ≡ 13 → ⊥) → sameEnds (operandFlat x) (operandFlat y) ≡ true
 plain-ends x y h k = ap₂ sameEnds (plain-is x h) (plain-is y k)

@@ -21,6 +21,7 @@ use Rattle.insn.specs.declared.Mem.{Mem}
 use Rattle.insn.specs.declared.Operand.{Operand}
 use Rattle.insn.specs.declared.Operand.the-variants.{Empty, Register, Shifted, ShiftBy, SaturateShift, Rotate, Count, Number, StatusMask}
 use Rattle.insn.specs.declared.Operand.the-variants.{StatusSource, WriteBack, List as RegisterList, Address, Memory, Option}
+use Rattle.insn.specs.declared.Operand.the-variants.{Coprocessor, CoprocessorRegister}
 use Rattle.insn.specs.declared.Flow.{Flow}
 use Rattle.insn.specs.declared.Flow.the-variants.{Next, Branch, CondBranch, IndirectBranch, Call, IndirectCall, Return, Trap}
 use Rattle.insn.specs.declared.Place.{Place}
@@ -61,7 +62,7 @@ abbrev pub signedFrom : List ℕ → ℕ → ℤ
 signedFrom row p = pick (marked row p) (negsuc (low 63 row (p + 1))) (pos (low 63 row (p + 1)))
 
 -- an operand's eleven numbers, from place p on: kind; register or base; shift's kind, status register or whether there is an index;
--- amount, mask or option; sign; value or displacement; index; mode; size; decimal; minus zero
+-- amount, mask, option or coprocessor's number; sign; value or displacement; index; mode; size; decimal; minus zero
 abbrev pub indexFrom : List ℕ → ℕ → Index
 indexFrom row p = pick (marked row (p + 2)) (Left (regFrom row (p + 6)) (low 8 row (p + 3))) Absent
 
@@ -92,7 +93,9 @@ operandAs kind row p =
     (pick (eqb kind 11) (RegisterList (low 16 row (p + 5)))
     (pick (eqb kind 12) (Address (low 32 row (p + 5)))
     (pick (eqb kind 13) (Memory (memFrom row p))
-    (pick (eqb kind 14) (Option n) Empty)))))))))))))
+    (pick (eqb kind 14) (Option n)
+    (pick (eqb kind 15) (Coprocessor n)
+    (pick (eqb kind 16) (CoprocessorRegister n) Empty)))))))))))))))
   where
     r : Reg
     r = regFrom row (p + 1)

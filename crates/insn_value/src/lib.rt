@@ -82,6 +82,8 @@ fn operand_as(kind: u64, row: &[u64], p: usize) -> Operand
         12 => Operand::Address(word(row, p + 5)),
         13 => Operand::Memory(mem_from(row, p)),
         14 => Operand::Option(byte(row, p + 3)),
+        15 => Operand::Coprocessor(byte(row, p + 3)),
+        16 => Operand::CoprocessorRegister(byte(row, p + 3)),
         _ => Operand::Empty,
     }
 }

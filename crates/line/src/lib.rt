@@ -7,6 +7,7 @@ use insn::Insn;
 use line_names::put_flow;
 use line_names::put_root;
 use line_names::put_suffix;
+use line_names::stem;
 use line_operands::put_places;
 use text::Written;
 use text::put;
@@ -106,6 +107,12 @@ fn put_name(out: &mut [u8], at: usize, name: u16, cond: Cond) -> usize
     requires { ⌜ Room (now out) at (nameText name cond) ⌝ }
     ensures { λ r. ⌜ Put (now (out .entry)) at (nameText name cond) r (now (out .exit)) ⌝ }
 {
-    let at = put_root(out, at, name);
-    put_suffix(out, at, cond)
+    let root = stem(name);
+    let at = put_root(out, at, root);
+    let at = put_suffix(out, at, cond);
+    if root == name {
+        at
+    } else {
+        put_byte(out, at, b'l')
+    }
 }

@@ -4,15 +4,17 @@ use insn::Flow;
 use insn::Reg;
 use insn::Shift;
 use insn::Status;
+use insn::name;
 use text::put_entry;
+ghost use mathlib.Core.Path.{_≡_};
 ghost use Rattle.insn.specs.Numbers.{statusNumber};
 ghost use Rattle.text.specs.Put.{Room, Put};
 ghost use Rattle.insn.specs.Roots.{roots};
-ghost use Rattle.line_spelling.specs.Names.{suffixes, masks, sources, barriers, entry};
-ghost use Rattle.line_spelling.specs.Line.{registerText, shiftText, flowText};
+ghost use Rattle.line_spelling.specs.Names.{suffixes, masks, sources, barriers, coprocessors, coRegisters, entry};
+ghost use Rattle.line_spelling.specs.Line.{stemOf, registerText, shiftText, flowText};
 
 /// The roots, by name number.
-const ROOTS: [u8; 1192] = *b"\
+const ROOTS: [u8; 1264] = *b"\
     and     eor     sub     rsb     add     adc     sbc     rsc     \
     tst     teq     cmp     cmn     orr     mov     bic     mvn     \
     ands    eors    subs    rsbs    adds    adcs    sbcs    rscs    \
@@ -31,7 +33,8 @@ const ROOTS: [u8; 1192] = *b"\
     stm     stmdb   stmib   pop     push    bl      b       pld     \
     pldw    clrex   dsb     dmb     isb     smlabb  smlabt  smlatb  \
     smlatt  smlawb  smlawt  smulwb  smulwt  smlalbb smlalbt smlaltb \
-    smlaltt smulbb  smulbt  smultb  smultt  ";
+    smlaltt smulbb  smulbt  smultb  smultt  mrc     mcr     cdp     \
+    mrrc    mcrr    ldc     ldcl    stc     stcl    ";
 
 /// By condition.
 const SUFFIXES: [u8; 32] = *b"\
@@ -67,9 +70,32 @@ const REGISTERS: [u8; 64] = *b"\
     r0  r1  r2  r3  r4  r5  r6  r7  \
     r8  r9  r10 r11 r12 sp  lr  pc  ";
 
+/// The coprocessors, by number.
+const COPROCESSORS: [u8; 64] = *b"\
+    p0  p1  p2  p3  p4  p5  p6  p7  \
+    p8  p9  p10 p11 p12 p13 p14 p15 ";
+
+/// The registers of a coprocessor, by number.
+const CO_REGISTERS: [u8; 64] = *b"\
+    c0  c1  c2  c3  c4  c5  c6  c7  \
+    c8  c9  c10 c11 c12 c13 c14 c15 ";
+
 /// By the number of a flow.
 const FLOWS: [u8; 64] = *b"\
     next    jump    jump?   ijump   call    icall   ret     trap    ";
+
+/// The root that stands before the condition: in the `l` names the condition stands before the `l`.
+pub fn stem(root: u16) -> u16
+    ensures { λ r. ⌜ r ≡ stemOf root ⌝ }
+{
+    if root == name::LDCL {
+        name::LDC
+    } else if root == name::STCL {
+        name::STC
+    } else {
+        root
+    }
+}
 
 pub fn put_root(out: &mut [u8], at: usize, name: u16) -> usize
     requires { ⌜ Room (now out) at (entry roots name) ⌝ }
@@ -118,6 +144,20 @@ pub fn put_register(out: &mut [u8], at: usize, reg: Reg) -> usize
     ensures { λ r. ⌜ Put (now (out .entry)) at (registerText reg) r (now (out .exit)) ⌝ }
 {
     put_entry(out, at, &REGISTERS, 4, reg.0 as usize)
+}
+
+pub fn put_coprocessor(out: &mut [u8], at: usize, n: u8) -> usize
+    requires { ⌜ Room (now out) at (entry coprocessors n) ⌝ }
+    ensures { λ r. ⌜ Put (now (out .entry)) at (entry coprocessors n) r (now (out .exit)) ⌝ }
+{
+    put_entry(out, at, &COPROCESSORS, 4, n as usize)
+}
+
+pub fn put_co_register(out: &mut [u8], at: usize, n: u8) -> usize
+    requires { ⌜ Room (now out) at (entry coRegisters n) ⌝ }
+    ensures { λ r. ⌜ Put (now (out .entry)) at (entry coRegisters n) r (now (out .exit)) ⌝ }
+{
+    put_entry(out, at, &CO_REGISTERS, 4, n as usize)
 }
 
 pub fn put_flow(out: &mut [u8], at: usize, flow: Flow) -> usize

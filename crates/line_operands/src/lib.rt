@@ -6,6 +6,8 @@ use insn::Operand;
 use insn::PLACES;
 use insn::Place;
 use line_names::put_barrier;
+use line_names::put_co_register;
+use line_names::put_coprocessor;
 use line_names::put_mask;
 use line_names::put_register;
 use line_names::put_shift;
@@ -137,6 +139,8 @@ fn put_operand(out: &mut [u8], at: usize, operand: Operand) -> usize
         }
         Operand::Memory(m) => put_memory(out, at, m),
         Operand::Option(n) => put_barrier(out, at, n),
+        Operand::Coprocessor(n) => put_coprocessor(out, at, n),
+        Operand::CoprocessorRegister(n) => put_co_register(out, at, n),
     }
 }
 

@@ -7,7 +7,7 @@ use Prim.Native.Char.{code}
 use native.Mathlib.Omega.{arith}
 use borrow.Author.Tests.{eqb-true, eqb-false, ltb-false}
 use lib.Dec.{eqb, ltb}
-use Rattle.word.specs.Choice.{pick, by-test}
+use Rattle.word.specs.Choice.{pick, by-test, parts}
 use Rattle.text.specs.Text.{bytes, decimalOf}
 use Rattle.insn.specs.Roots.{NAMES, roots}
 use Rattle.insn.specs.Numbers.{flowNumber}
@@ -19,10 +19,10 @@ use Rattle.insn.specs.declared.Flow.the-variants.{Next, Branch, CondBranch, Ind
 use Rattle.insn.specs.declared.Insn.{Insn}
 use Rattle.insn.specs.declared.Place.{Place}
 use Rattle.line_spelling.specs.Names.{entry, suffixes, flows}
-use Rattle.line_spelling.specs.Line.{operandText, nameText, flowText, insnText, refusedText}
+use Rattle.line_spelling.specs.Line.{operandText, stemOf, tailOf, nameText, flowText, insnText, refusedText}
 use Rattle.line_spelling.proofs.Cut.{all-cat, isnt, pieces, cut, uncut}
 use Rattle.line_spelling.proofs.Formed.{Laid, Formed, Aimed, unconditional, targetIn}
-use Rattle.line_spelling.proofs.Names.{nameFrom, conditionFrom, spelled, name-back, condition-back}
+use Rattle.line_spelling.proofs.Names.{whole, nameFrom, conditionFrom, spelled, name-back, condition-back}
 use Rattle.line_spelling.proofs.Spaced.{spaced, insn-text}
 use Rattle.line_spelling.proofs.Tables.{every-passes, find, found, flow-few}
 use Rattle.line_spelling.proofs.Clean.{free, decimal-free, operand-free}
@@ -33,8 +33,12 @@ flow-free flow = unfold flowText in every-passes (λ n. free (entry flows n)) 8 
 
 name-free : (n : ℕ) (c : Cond) → n < NAMES → c .0 < 16 → free (nameText n c) ≡ true
 name-free n c h k = unfold nameText in
-    all-cat (isnt (code " ")) (entry roots n) (entry suffixes (c .0))
-    ∙ rw (every-passes (λ n. free (entry roots n)) NAMES tt n h, every-passes (λ n. free (entry suffixes n)) 16 tt (c .0) k)
+    simp (all-cat, parted .0, every-passes (λ n. free (entry suffixes n)) 16 tt (c .0) k, parted .1)
+  where
+    parted : (free (entry roots (stemOf n)) ≡ true) × (free (tailOf n) ≡ true)
+    parted =
+        parts _ _ (sym (all-cat (isnt (code " ")) (entry roots (stemOf n)) (tailOf n)) ∙ ap free (whole n)
+        ∙ every-passes (λ n. free (entry roots n)) NAMES tt n h)
 
 -- the words of a text after the name: the operands, and the flow
 abbrev wordsOf : List Operand → List ℕ → List (List ℕ)

@@ -18,10 +18,11 @@ use Rattle.insn.specs.declared.Mem.{Mem}
 use Rattle.insn.specs.declared.Operand.{Operand}
 use Rattle.insn.specs.declared.Operand.the-variants.{Empty, Register, Shifted, ShiftBy, SaturateShift, Rotate, Count, Number, StatusMask}
 use Rattle.insn.specs.declared.Operand.the-variants.{StatusSource, WriteBack, List as RegisterList, Address, Memory, Option}
+use Rattle.insn.specs.declared.Operand.the-variants.{Coprocessor, CoprocessorRegister}
 use Rattle.insn.specs.declared.Reg.{Reg}
 use Rattle.insn.specs.declared.Shift.{Shift}
 use Rattle.insn.specs.declared.Status.the-variants.{Apsr, Spsr}
-use Rattle.line_spelling.specs.Names.{masks, registers, shifts, barriers, entry}
+use Rattle.line_spelling.specs.Names.{masks, registers, shifts, barriers, coprocessors, coRegisters, entry}
 use Rattle.line_spelling.specs.Line.{registerText, shiftText, indexText, displacementText, modeText, memoryText, operandText}
 use Rattle.line_spelling.proofs.Cut.{all, all-cat, isnt, lacks, pieces, cut, uncut}
 use Rattle.line_spelling.proofs.Digits.{first, decimal-all, signed-all, hex-all}
@@ -71,9 +72,6 @@ word-clean (x ∷ a) h = h
 pub register-word : (r : Reg) → r .0 < 16 → isWord (registerText r) ≡ true
 register-word r h = unfold registerText plain in every-passes (λ n. isWord (entry registers n)) 16 tt (r .0) h
 
-pub mask-word : (n : ℕ) → n < 32 → isWord (entry masks n) ≡ true
-mask-word = unfold plain in every-passes (λ n. isWord (entry masks n)) 32 tt
-
 pub shift-word : (kind : Shift) → isWord (shiftText kind) ≡ true
 shift-word kind = unfold shiftText plain in every-passes (λ n. isWord (entry shifts n)) 4 tt (shiftNumber kind) (shift-few kind)
 
@@ -82,9 +80,6 @@ register-clean r h = word-clean (registerText r) (register-word r h)
 
 pub shift-clean : (kind : Shift) → clean (shiftText kind) ≡ true
 shift-clean kind = word-clean (shiftText kind) (shift-word kind)
-
-mask-clean : (n : ℕ) → n < 32 → clean (entry masks n) ≡ true
-mask-clean n h = word-clean (entry masks n) (mask-word n h)
 
 pub decimal-clean : (n : ℕ) → clean (decimalOf n) ≡ true
 decimal-clean n = unfold plain in decimal-all plain tt n
@@ -152,7 +147,7 @@ operand-free last name (SaturateShift kind n) s = simp (all-cat, shift-free kind
 operand-free last name (Rotate n) s = decimal-free n
 operand-free last name (Count z) s = clean-free (signedOf z) (signed-clean z)
 operand-free last name (Number n) s = decimal-free n
-operand-free last name (StatusMask n) s = clean-free (entry masks n) (mask-clean n s)
+operand-free last name (StatusMask n) s = every-passes (λ n. free (entry masks n)) 32 tt n s
 operand-free last name (StatusSource Apsr) s = refl
 operand-free last name (StatusSource Spsr) s = refl
 operand-free last name (WriteBack r) s = simp (all-cat, register-free r s)
@@ -160,3 +155,5 @@ operand-free last name (RegisterList n) s = simp (all-cat, clean-free (hexOf 4 n
 operand-free last name (Address n) s = clean-free (hexOf 8 n) (hex-clean 8 n)
 operand-free last name (Memory m) s = memory-free name m (s .1)
 operand-free last name (Option n) s = every-passes (λ n. free (entry barriers n)) 16 tt n (s .1)
+operand-free last name (Coprocessor n) s = every-passes (λ n. free (entry coprocessors n)) 16 tt n s
+operand-free last name (CoprocessorRegister n) s = every-passes (λ n. free (entry coRegisters n)) 16 tt n s

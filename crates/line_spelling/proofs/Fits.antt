@@ -1,8 +1,8 @@
 -- "a line takes at most 96 bytes". Assumes nothing.
-use mathlib.Core.Path.{_≡_, refl, subst, sym}
+use mathlib.Core.Path.{_≡_, refl, subst, sym, ap}
 use mathlib.Core.Bool.{Bool, true, false}
 use mathlib.Core.List.{List, [], _∷_}
-use Prim.Native.Nat.{ℕ, _+_, _*_, _<_, _≤_}
+use Prim.Native.Nat.{ℕ, _+_, _<_, _≤_}
 use Prim.Native.Char.{code}
 use native.Mathlib.Omega.{arith}
 use borrow.Author.Tests.{eqb-true}
@@ -24,22 +24,26 @@ use Rattle.insn.specs.declared.Mem.{Mem}
 use Rattle.insn.specs.declared.Operand.{Operand}
 use Rattle.insn.specs.declared.Operand.the-variants.{Empty, Register, Shifted, ShiftBy, SaturateShift, Rotate, Count, Number, StatusMask}
 use Rattle.insn.specs.declared.Operand.the-variants.{StatusSource, WriteBack, List as RegisterList, Address, Memory, Option}
+use Rattle.insn.specs.declared.Operand.the-variants.{Coprocessor, CoprocessorRegister}
 use Rattle.insn.specs.declared.Reg.{Reg}
 use Rattle.insn.specs.declared.Shift.{Shift}
 use Rattle.insn.specs.declared.Status.the-variants.{Apsr, Spsr}
 use Rattle.a32.specs.Decode.{decodeOf}
-use Rattle.line_spelling.specs.Names.{suffixes, masks, shifts, barriers, registers, flows}
+use Rattle.line_spelling.specs.Names.{suffixes, masks, shifts, barriers, registers, coprocessors, coRegisters, flows}
 use Rattle.line_spelling.specs.Line.{nameText, registerText, shiftText, indexText, displacementText, modeText, memoryText, operandText}
 use Rattle.line_spelling.specs.Line.{flowText, insnText}
 use Rattle.line_spelling.specs.Line.{refusedText, answerText, lineText, lineOf}
 use Rattle.line_spelling.proofs.Digits.{decimal-length, signed-length, hex-length}
-use Rattle.line_spelling.proofs.Formed.{Sound, Laid, Held, Indexed, Formed, Good, either}
+use Rattle.line_spelling.proofs.Formed.{Sound, Laid, widthOf, roomFor, Held, Indexed, Formed, Good, either}
 use Rattle.line_spelling.proofs.FormedAll.{all-good}
+use Rattle.line_spelling.proofs.Names.{whole}
 use Rattle.line_spelling.proofs.Spaced.{spaced, insn-text}
 use Rattle.line_spelling.proofs.Tables.{at-most, shift-few, flow-few}
 
 name-length : (n : ℕ) (c : Cond) → n < NAMES → c .0 < 16 → length (nameText n c) ≤ 9
-name-length n c h k = unfold nameText in simp length-append (omega (arith, at-most roots 7 NAMES tt n h, at-most suffixes 2 16 tt (c .0) k))
+name-length n c h k = unfold nameText in
+    simp length-append
+    (omega (arith, simp length-append at (ap length (whole n)), at-most roots 7 NAMES tt n h, at-most suffixes 2 16 tt (c .0) k))
 
 register-length : (r : Reg) → r .0 < 16 → length (registerText r) ≤ 3
 register-length r h = unfold registerText in at-most registers 3 16 tt (r .0) h
@@ -77,36 +81,33 @@ memory-length name m h = unfold memoryText in
       decimal-length 0 (m .size) (h .size),
     ))
 
--- what an operand may take: a memory form stands last
-abbrev room : Bool → ℕ
-room last = pick last 22 12
+-- what a memory form takes beyond another operand: it stands last
+abbrev more : Bool → ℕ
+more last = pick last 10 0
 
-least : (last : Bool) {n : ℕ} → n ≤ 12 → n ≤ room last
-least true h = omega arith
-least false h = h
-
-operand-length : (last : Bool) (name : ℕ) (o : Operand) → Sound last name o → length (operandText o) ≤ room last
+operand-length : (last : Bool) (name : ℕ) (o : Operand) → Sound last name o → length (operandText o) ≤ widthOf o + more last
 unfolding operandText
 operand-length last name Empty s = absurd s
-operand-length last name (Register r) s = least last (omega (arith, register-length r s))
+operand-length last name (Register r) s = omega (arith, register-length r s)
 operand-length last name (Shifted r kind n) s =
-    least last (simp length-append (omega (arith, register-length r (s .0), shift-length kind, decimal-length 1 n (omega (arith, s .1)))))
-operand-length last name (ShiftBy kind r) s = least last (simp length-append (omega (arith, shift-length kind, register-length r s)))
-operand-length last name (SaturateShift kind n) s =
-    least last (simp length-append (omega (arith, shift-length kind, decimal-length 1 n (omega (arith, s .1)))))
-operand-length last name (Rotate n) s = least last (omega (arith, decimal-length 1 n (omega (arith, s))))
-operand-length last name (Count z) s = least last (omega (arith, signed-length 9 z (omega (arith, s .1))))
-operand-length last name (Number n) s = least last (omega (arith, decimal-length 9 n (omega (arith, s .1))))
-operand-length last name (StatusMask n) s = least last (omega (arith, at-most masks 11 32 tt n s))
-operand-length last name (StatusSource Apsr) s = least last (lit≤ tt)
-operand-length last name (StatusSource Spsr) s = least last (lit≤ tt)
-operand-length last name (WriteBack r) s = least last (simp length-append (omega (arith, register-length r s)))
-operand-length last name (RegisterList n) s = least last (simp length-append (omega (arith, hex-length 4 n)))
-operand-length last name (Address n) s = least last (omega (arith, hex-length 8 n))
-operand-length last name (Memory m) s = subst (λ (b : Bool). length (memoryText m) ≤ room b) (sym (s .0)) (memory-length name m (s .1))
-operand-length last name (Option n) s = least last (omega (arith, at-most barriers 5 16 tt n (s .1)))
+    simp length-append (omega (arith, register-length r (s .0), shift-length kind, decimal-length 1 n (omega (arith, s .1))))
+operand-length last name (ShiftBy kind r) s = simp length-append (omega (arith, shift-length kind, register-length r s))
+operand-length last name (SaturateShift kind n) s = simp length-append (omega (arith, shift-length kind, decimal-length 1 n (omega (arith, s .1))))
+operand-length last name (Rotate n) s = omega (arith, decimal-length 1 n (omega (arith, s)))
+operand-length last name (Count z) s = omega (arith, signed-length 9 z (omega (arith, s .1)))
+operand-length last name (Number n) s = omega (arith, decimal-length 9 n (omega (arith, s .1)))
+operand-length last name (StatusMask n) s = omega (arith, at-most masks 11 32 tt n s)
+operand-length last name (StatusSource Apsr) s = omega arith
+operand-length last name (StatusSource Spsr) s = omega arith
+operand-length last name (WriteBack r) s = simp length-append (omega (arith, register-length r s))
+operand-length last name (RegisterList n) s = simp length-append (omega (arith, hex-length 4 n))
+operand-length last name (Address n) s = omega (arith, hex-length 8 n)
+operand-length last name (Memory m) s = subst (λ (b : Bool). length (memoryText m) ≤ 12 + more b) (sym (s .0)) (memory-length name m (s .1))
+operand-length last name (Option n) s = omega (arith, at-most barriers 5 16 tt n (s .1))
+operand-length last name (Coprocessor n) s = omega (arith, at-most coprocessors 3 16 tt n s)
+operand-length last name (CoprocessorRegister n) s = omega (arith, at-most coRegisters 3 16 tt n s)
 
-spaced-length : (name : ℕ) (ops : List Operand) → Laid name ops → (rest : List ℕ) → length (spaced ops rest) ≤ 13 * length ops + 10 + length rest
+spaced-length : (name : ℕ) (ops : List Operand) → Laid name ops → (rest : List ℕ) → length (spaced ops rest) ≤ roomFor ops + 10 + length rest
 spaced-length name [] laid rest = omega arith
 spaced-length name (o ∷ []) s rest = simp length-append (omega (arith, operand-length true name o s))
 spaced-length name (o ∷ p ∷ os) laid rest =
@@ -127,7 +128,7 @@ insn-length i f =
       spaced-length (i .name) (f .operands) (f .sound)
           (code " " ∷ flowText (i .flow)),
       flow-length (i .flow),
-      f .few,
+      f .brief,
     )))
 
 refused-length : (n : ℕ) → n < 10 → length (refusedText n) ≤ 77

@@ -2,7 +2,7 @@
 use mathlib.Core.Path.{_≡_, refl, sym, _∙_}
 use mathlib.Core.Bool.{Bool, true, false, not}
 use mathlib.Core.List.{List, [], _∷_}
-use Prim.Native.Nat.{ℕ, _^_, _<_, _≤_}
+use Prim.Native.Nat.{ℕ, suc, _+_, _*_, _^_, _<_, _≤_}
 use native.Mathlib.Omega.{arith}
 use borrow.Author.Tests.{ltb-true, not-true, lt-leb, ne-eqb}
 use lib.Dec.{T, eqb, leb, ltb, ltb→lt, lt→ltb, lit<, lit≤}
@@ -10,9 +10,9 @@ use lib.IntN.{pos, natAbs}
 use lib.ListN.{length}
 use Rattle.word.specs.Choice.{pick, both, inside, tested, parts, passes, fails}
 use Rattle.word.specs.Field.{field, small}
-use Rattle.insn.specs.Answer.{places, refused}
+use Rattle.insn.specs.Answer.{PLACES, places, refused}
 use Rattle.insn.specs.Roots.{NAMES, name}
-use Rattle.insn.specs.Numbers.{shiftNumber, flowNumber}
+use Rattle.insn.specs.Numbers.{shiftNumber, operandNumber, flowNumber}
 use Rattle.insn.specs.declared.AddrMode.{AddrMode}
 use Rattle.insn.specs.declared.Decoded.{Decoded}
 use Rattle.insn.specs.declared.Flow.{Flow}
@@ -24,6 +24,7 @@ use Rattle.insn.specs.declared.Mem.{Mem}
 use Rattle.insn.specs.declared.Operand.{Operand}
 use Rattle.insn.specs.declared.Operand.the-variants.{Empty, Register, Shifted, ShiftBy, SaturateShift, Rotate, Count, Number, StatusMask}
 use Rattle.insn.specs.declared.Operand.the-variants.{StatusSource, WriteBack, List as RegisterList, Address, Memory, Option}
+use Rattle.insn.specs.declared.Operand.the-variants.{Coprocessor, CoprocessorRegister}
 use Rattle.a32_shared.specs.Row.{answer, noRow}
 use Rattle.a32_ldst.specs.Mem.{isPost}
 
@@ -70,11 +71,22 @@ Sound last name (RegisterList n) = n < 2 ^ 16
 Sound last name (Address n) = n < 2 ^ 32
 Sound last name (Memory m) = (last ≡ true) × Held name m
 Sound last name (Option n) = (hashed name ≡ 2) × (n < 16)
+Sound last name (Coprocessor n) = n < 16
+Sound last name (CoprocessorRegister n) = n < 16
 
 abbrev pub Laid : ℕ → List Operand → Type 0
 Laid name [] = Unit
 Laid name (o ∷ []) = Sound true name o
 Laid name (o ∷ p ∷ os) = Sound false name o × Laid name (p ∷ os)
+
+-- the most bytes that an operand takes, a memory form aside: a register, a coprocessor and a register of one are short
+abbrev pub widthOf : Operand → ℕ
+widthOf o = pick (eqb (operandNumber o) 1) 3 (pick (inside 15 16 (operandNumber o)) 3 12)
+
+-- and operands, with a space before each
+abbrev pub roomFor : List Operand → ℕ
+roomFor [] = 0
+roomFor (o ∷ os) = suc (widthOf o + roomFor os)
 
 -- the address at place 0, if one is there
 abbrev pub addressIn : Operand → ℕ
@@ -93,6 +105,8 @@ addressIn (RegisterList n) = 0
 addressIn (Address n) = n
 addressIn (Memory m) = 0
 addressIn (Option n) = 0
+addressIn (Coprocessor n) = 0
+addressIn (CoprocessorRegister n) = 0
 
 abbrev pub targetIn : List Operand → ℕ
 targetIn [] = 0
@@ -109,12 +123,13 @@ Aimed ops IndirectCall = Unit
 Aimed ops Return = Unit
 Aimed ops Trap = Unit
 
--- an accepted answer, as rows make it: none of them has more than four operands
+-- an accepted answer, as rows make it: none of them has more than four operands, but where most of them are short
 pub record Formed (addr : ℕ) (i : Insn) : Type 0 where
   pub asked : i .addr ≡ addr
   pub operands : List Operand
   pub laid : i .ops ≡ places operands
-  pub few : length operands ≤ 4
+  pub few : length operands ≤ PLACES
+  pub brief : roomFor operands ≤ 4 * 13
   pub sound : Laid (i .name) operands
   pub named : i .name < NAMES
   pub under : i .cond .0 < 16
@@ -166,15 +181,25 @@ by-name w n c t flow =
     below : n < name "pld"
     below = ltb-true n (name "pld") (tests .0)
 
--- the same of the names after the barriers, the halfword multiplies
+-- the same of the names after the barriers, the halfword multiplies and the coprocessor words
 pub by-half : (w n : ℕ) → eqb (field w 28 4) 15 ≡ false → name "isb" < n → n < NAMES → (flow : Flow) → Under w n flow
 by-half w n c past few flow = (lt→ltb n NAMES few, c ∙ sym (simp (ne-eqb n (name "blx") (λ e. omega arith), lt-leb n (name "isb") past, fails)))
 
+-- four operands or less, of any kind
+wide : (operands : List Operand) → roomFor operands ≤ 13 * length operands
+wide [] = omega arith
+wide (o ∷ os) =
+    either Fits (eqb (operandNumber o) 1) (omega (arith, wide os)) (either Fits (inside 15 16 (operandNumber o)) (omega (arith, wide os))
+    (omega (arith, wide os)))
+  where
+    Fits : ℕ → Type 0
+    Fits n = suc (n + roomFor os) ≤ 13 * suc (length os)
+
 -- a row's answer, by the number of its operands
 module _ (w : ℕ) {addr name : ℕ} {flow : Flow} (under : Under w name flow) where
-  row : (operands : List Operand) → T (leb (length operands) 4) → Laid name operands → Aimed operands flow
+  row : (operands : List Operand) → length operands ≤ PLACES → roomFor operands ≤ 4 * 13 → Laid name operands → Aimed operands flow
       → Good addr (answer w addr name flow operands)
-  row operands few sound aimed =
+  row operands few brief sound aimed =
       record {
         refusal = lit< tt;
         empty = λ some. absurd (some refl);
@@ -183,7 +208,8 @@ module _ (w : ℕ) {addr name : ℕ} {flow : Flow} (under : Under w name flow) w
               asked = refl;
               operands = operands;
               laid = refl;
-              few = lit≤ few;
+              few = few;
+              brief = brief;
               sound = sound;
               named = lit<
                   (under .0);
@@ -193,19 +219,39 @@ module _ (w : ℕ) {addr name : ℕ} {flow : Flow} (under : Under w name flow) w
             };
       }
 
+  up-to-four : (operands : List Operand) → T (leb (length operands) 4) → Laid name operands → Aimed operands flow
+      → Good addr (answer w addr name flow operands)
+  up-to-four operands t = row operands (omega (arith, few)) (omega (arith, few, wide operands))
+    where
+      few : length operands ≤ 4
+      few = lit≤ t
+
+  short : (operands : List Operand) → T (leb (length operands) PLACES) → T (leb (roomFor operands) (4 * 13)) → Laid name operands → Aimed operands flow
+      → Good addr (answer w addr name flow operands)
+  short operands few brief = row operands (lit≤ few) (lit≤ brief)
+
   pub row0 : Aimed [] flow → Good addr (answer w addr name flow [])
-  row0 aimed = row [] tt tt aimed
+  row0 aimed = up-to-four [] tt tt aimed
 
   pub row1 : {a : Operand} → Sound true name a → Aimed (a ∷ []) flow → Good addr (answer w addr name flow (a ∷ []))
-  row1 s aimed = row _ tt s aimed
+  row1 s aimed = up-to-four _ tt s aimed
 
   pub row2 : {a b : Operand} → Sound false name a → Sound true name b → Aimed (a ∷ b ∷ []) flow → Good addr (answer w addr name flow (a ∷ b ∷ []))
-  row2 s t aimed = row (_ ∷ _ ∷ []) tt (s, t) aimed
+  row2 s t aimed = up-to-four (_ ∷ _ ∷ []) tt (s, t) aimed
 
   pub row3 : {a b c : Operand} → Sound false name a → Sound false name b → Sound true name c → Aimed (a ∷ b ∷ c ∷ []) flow
       → Good addr (answer w addr name flow (a ∷ b ∷ c ∷ []))
-  row3 s t u aimed = row (_ ∷ _ ∷ _ ∷ []) tt (s, (t, u)) aimed
+  row3 s t u aimed = up-to-four (_ ∷ _ ∷ _ ∷ []) tt (s, (t, u)) aimed
 
   pub row4 : {a b c d : Operand} → Sound false name a → Sound false name b → Sound false name c → Sound true name d → Aimed (a ∷ b ∷ c ∷ d ∷ []) flow
       → Good addr (answer w addr name flow (a ∷ b ∷ c ∷ d ∷ []))
-  row4 s t u v aimed = row (_ ∷ _ ∷ _ ∷ _ ∷ []) tt (s, (t, (u, v))) aimed
+  row4 s t u v aimed = up-to-four (_ ∷ _ ∷ _ ∷ _ ∷ []) tt (s, (t, (u, v))) aimed
+
+  pub row5 : {a b c d e : Operand} → T (leb (roomFor (a ∷ b ∷ c ∷ d ∷ e ∷ [])) (4 * 13)) → Sound false name a → Sound false name b → Sound false name c
+      → Sound false name d → Sound true name e → Aimed (a ∷ b ∷ c ∷ d ∷ e ∷ []) flow → Good addr (answer w addr name flow (a ∷ b ∷ c ∷ d ∷ e ∷ []))
+  row5 brief s t u v x aimed = short (_ ∷ _ ∷ _ ∷ _ ∷ _ ∷ []) tt brief (s, (t, (u, (v, x)))) aimed
+
+  pub row6 : {a b c d e f : Operand} → T (leb (roomFor (a ∷ b ∷ c ∷ d ∷ e ∷ f ∷ [])) (4 * 13)) → Sound false name a → Sound false name b
+      → Sound false name c → Sound false name d → Sound false name e → Sound true name f → Aimed (a ∷ b ∷ c ∷ d ∷ e ∷ f ∷ []) flow
+      → Good addr (answer w addr name flow (a ∷ b ∷ c ∷ d ∷ e ∷ f ∷ []))
+  row6 brief s t u v x y aimed = short (_ ∷ _ ∷ _ ∷ _ ∷ _ ∷ _ ∷ []) tt brief (s, (t, (u, (v, (x, y))))) aimed

@@ -34,7 +34,7 @@ module _ (w off : ℕ) where
   marked-zero e = unfold minusZeroOf in eqb-true off 0 (parts (isClear w U) (eqb off 0) e .1)
 
 module _ (w : ℕ) {name size : ℕ} {decimal : Bool} (few : size < 10) (is : decimal ≡ decimalFor name (modeOf w)) where
-  with-disp : {off : ℕ} {marked : Bool} → off < 4096 → (marked ≡ true → off ≡ 0) → Sound true name (withDispOf w off size decimal marked)
+  pub with-disp : {off : ℕ} {marked : Bool} → off < 4096 → (marked ≡ true → off ≡ 0) → Sound true name (withDispOf w off size decimal marked)
   with-disp {off} fits mark = (
     refl,
     record {

@@ -6,6 +6,7 @@ pub mod FormedMisc
 pub mod FormedMultiply
 pub mod FormedMedia
 pub mod FormedTransfer
+pub mod FormedCoproc
 pub mod FormedAll
 pub mod Cut
 pub mod Tables
@@ -17,3 +18,4 @@ pub mod Clean
 pub mod Read
 pub mod Back
 pub mod Differ
+pub mod Example

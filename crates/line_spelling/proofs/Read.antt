@@ -2,9 +2,10 @@
 use mathlib.Core.Path.{_≡_, refl, subst, sym, ap, _∙_}
 use mathlib.Core.Bool.{Bool, true, false}
 use mathlib.Core.List.{List, [], _∷_, _++_, append-nil, append-assoc}
-use Prim.Native.Nat.{ℕ, _+_, _-_, _^_, _<_}
+use Prim.Native.Nat.{ℕ, _+_, _-_, _^_, _<_, _≤_}
 use Prim.Native.Char.{code}
 use Prim.Native.String.{String}
+use native.Mathlib.Nat.{zero-add}
 use native.Mathlib.Omega.{arith}
 use borrow.Author.Tests.{lt-ltb, le-ltb}
 use lib.Dec.{T, eqb, ltb, ltb→lt}
@@ -12,6 +13,7 @@ use lib.IntN.{ℤ, natAbs}
 use lib.ListN.{getD, take, drop}
 use lib.Seq.{take-at}
 use Rattle.word.specs.Choice.{pick, by-test}
+use Rattle.word.specs.Every.{every}
 use Rattle.text.specs.Text.{bytes, decimalOf, signedOf, hexOf}
 use Rattle.insn.specs.Numbers.{shiftNumber}
 use Rattle.insn.specs.declared.AddrMode.{AddrMode}
@@ -22,20 +24,21 @@ use Rattle.insn.specs.declared.Mem.{Mem}
 use Rattle.insn.specs.declared.Operand.{Operand}
 use Rattle.insn.specs.declared.Operand.the-variants.{Empty, Register, Shifted, ShiftBy, SaturateShift, Rotate, Count, Number, StatusMask}
 use Rattle.insn.specs.declared.Operand.the-variants.{StatusSource, WriteBack, List as RegisterList, Address, Memory, Option}
+use Rattle.insn.specs.declared.Operand.the-variants.{Coprocessor, CoprocessorRegister}
 use Rattle.insn.specs.declared.Reg.{Reg}
 use Rattle.insn.specs.declared.Shift.{Shift}
 use Rattle.insn.specs.declared.Shift.the-variants.{Lsl, Lsr, Asr, Ror}
 use Rattle.insn.specs.declared.Status.{Status}
 use Rattle.insn.specs.declared.Status.the-variants.{Apsr, Spsr}
 use Rattle.a32_shared.specs.Shifts as Kind
-use Rattle.line_spelling.specs.Names.{masks, shifts, sources, barriers, registers, entry}
+use Rattle.line_spelling.specs.Names.{masks, shifts, sources, barriers, registers, coprocessors, coRegisters, entry}
 use Rattle.line_spelling.specs.Line.{registerText, shiftText, indexText, displacementText, modeText, memoryText, operandText}
 use Rattle.line_spelling.proofs.Cut.{all-cat, pieces, cut, uncut}
 use Rattle.line_spelling.proofs.Digits.{first, numberFrom, signedFrom, minusZeroFrom, decimal-back, signed-back, not-minus-zero, hex-back}
 use Rattle.line_spelling.proofs.Digits.{hex-length}
 use Rattle.line_spelling.proofs.Formed.{Held, Indexed, hashed, decimalFor, Sound}
-use Rattle.line_spelling.proofs.Tables.{agrees, find, found}
-use Rattle.line_spelling.proofs.Clean.{plain, clean, clean-lacks, cut-clean, uncut-clean, isWord, lead, word-clean, register-word, mask-word}
+use Rattle.line_spelling.proofs.Tables.{every-passes, agrees, find, found}
+use Rattle.line_spelling.proofs.Clean.{plain, clean, clean-lacks, cut-clean, uncut-clean, isWord, lead, word-clean, register-word}
 use Rattle.line_spelling.proofs.Clean.{shift-word, register-clean, shift-clean, decimal-clean, mode-clean, displacement-clean, index-lacks}
 
 -- the parts of an operand
@@ -84,17 +87,20 @@ memoryFrom name ps =
       «minus_zero» = minusZeroFrom (getD ps 2 []);
     }
 
--- a word by itself: a register, a mask, a status register or an option; or a register with a mark behind it
+-- a word by itself: a register, a mask, a status register, an option, a coprocessor or a register of one; or a register with a mark behind it
 abbrev plainWords : List String
-plainWords = registers ++ masks ++ sources ++ barriers
+plainWords = registers ++ masks ++ sources ++ barriers ++ coprocessors ++ coRegisters
 
 abbrev statusFrom : ℕ → Status
 statusFrom n = pick (eqb n 0) Apsr Spsr
 
 abbrev plainFrom : ℕ → Operand
 plainFrom n =
-    pick (ltb n 16) (Register (record { 0 = n })) (pick (ltb n 48) (StatusMask (n - 16)) (pick (ltb n 50) (StatusSource (statusFrom (n - 48)))
-    (Option (n - 50))))
+    pick (ltb n 16) (Register (record { 0 = n }))
+    (pick (ltb n 48) (StatusMask (n - 16))
+    (pick (ltb n 50) (StatusSource (statusFrom (n - 48)))
+    (pick (ltb n 66) (Option (n - 50))
+    (pick (ltb n 82) (Coprocessor (n - 66)) (CoprocessorRegister (n - 82))))))
 
 abbrev wordFrom : List (List ℕ) → Operand
 wordFrom [] = Empty
@@ -143,6 +149,9 @@ small-back n k t h = decimal-back n (omega (arith, ltb→lt k (2 ^ 64) t))
 no-register : (n : ℕ) → n < 33 → ltb (find registers (decimalOf n)) 16 ≡ false
 no-register n h = unfold decimalOf in rw (agrees (λ n. find registers (decimalOf n)) (λ n. 16) 33 tt n h)
 
+less : (k n : ℕ) → k + n - k ≡ n
+less k n = omega arith
+
 module _ (name : ℕ) where
   -- a word by itself
   alone : (text : List ℕ) → isWord text ≡ true → operandFrom name text ≡ plainFrom (find plainWords text)
@@ -162,23 +171,31 @@ module _ (name : ℕ) where
       by-word name (a ++ code "," ∷ (b ++ code "," ∷ c)) (lead a (code "," ∷ (b ++ code "," ∷ c)) h)
       ∙ rw (cut-clean (code ",") tt a (b ++ code "," ∷ c) (word-clean a h), cut-clean (code ",") tt b c k, uncut-clean (code ",") tt c l)
 
+  -- a word of a table, by the table's place among the words
+  listed : (table : List String) (place count : ℕ) → T (every (λ n. isWord (entry table n)) 0 count)
+      → T (every (λ n. eqb (find plainWords (entry table n)) (place + n)) 0 count) → (n : ℕ) → n < count
+      → operandFrom name (entry table n) ≡ plainFrom (place + n)
+  listed table place count t u n h =
+      alone (entry table n) (every-passes (λ n. isWord (entry table n)) count t n h)
+      ∙ ap plainFrom (agrees (λ n. find plainWords (entry table n)) (λ n. place + n) count u n h)
+
   register : (r : Reg) → r .0 < 16 → operandFrom name (registerText r) ≡ Register r
-  unfolding registerText
-  register r h = alone (registerText r) (register-word r h) ∙ rw (known, lt-ltb (r .0) 16 h)
-    where
-      known : find plainWords (entry registers (r .0)) ≡ r .0
-      known = agrees (λ n. find plainWords (entry registers n)) (λ n. n) 16 tt (r .0) h
+  register r h = unfold registerText plain in listed registers 0 16 tt tt (r .0) h ∙ rw (zero-add (r .0), lt-ltb (r .0) 16 h)
 
   mask : (n : ℕ) → n < 32 → operandFrom name (entry masks n) ≡ StatusMask n
-  mask n h =
-      alone (entry masks n) (mask-word n h)
-      ∙ rw (known, le-ltb (16 + n) 16 (omega arith), lt-ltb (16 + n) 48 (omega arith)) (ap StatusMask back)
-    where
-      known : find plainWords (entry masks n) ≡ 16 + n
-      known = agrees (λ n. find plainWords (entry masks n)) (λ n. 16 + n) 32 tt n h
+  mask n h = unfold plain in
+      listed masks 16 32 tt tt n h ∙ rw (le-ltb (16 + n) 16 (omega arith), lt-ltb (16 + n) 48 (omega arith)) (ap StatusMask (less 16 n))
 
-      back : 16 + n - 16 ≡ n
-      back = omega arith
+  after : (n : ℕ) → 66 ≤ n → plainFrom n ≡ pick (ltb n 82) (Coprocessor (n - 66)) (CoprocessorRegister (n - 82))
+  after n h = rw (le-ltb n 16 (omega arith), le-ltb n 48 (omega arith), le-ltb n 50 (omega arith), le-ltb n 66 h)
+
+  coprocessor : (n : ℕ) → n < 16 → operandFrom name (entry coprocessors n) ≡ Coprocessor n
+  coprocessor n h = unfold plain in
+      listed coprocessors 66 16 tt tt n h ∙ after (66 + n) (omega arith) ∙ rw (lt-ltb (66 + n) 82 (omega arith)) (ap Coprocessor (less 66 n))
+
+  co-register : (n : ℕ) → n < 16 → operandFrom name (entry coRegisters n) ≡ CoprocessorRegister n
+  co-register n h = unfold plain in
+      listed coRegisters 82 16 tt tt n h ∙ after (82 + n) (omega arith) ∙ rw (le-ltb (82 + n) 82 (omega arith)) (ap CoprocessorRegister (less 82 n))
 
   source : (s : Status) → operandFrom name (operandText (StatusSource s)) ≡ StatusSource s
   unfolding operandText plain
@@ -236,13 +253,16 @@ module _ (name : ℕ) where
     unfolding plain
     word e =
         alone text e
-        ∙ rw (known, le-ltb (50 + n) 16 (omega arith), le-ltb (50 + n) 48 (omega arith), le-ltb (50 + n) 50 (omega arith)) (ap Option back)
+        ∙ rw (
+          known,
+          le-ltb (50 + n) 16 (omega arith),
+          le-ltb (50 + n) 48 (omega arith),
+          le-ltb (50 + n) 50 (omega arith),
+          lt-ltb (50 + n) 66 (omega arith),
+        ) (ap Option (less 50 n))
       where
         known : find plainWords text ≡ 50 + n
         known = simp e at (agrees (λ n. pick (isWord (entry barriers n)) (find plainWords (entry barriers n)) (50 + n)) (λ n. 50 + n) 16 tt n h)
-
-        back : 50 + n - 50 ≡ n
-        back = omega arith
 
     behind : isWord text ≡ false → operandFrom name text ≡ Option n
     unfolding operandFrom plain
@@ -345,3 +365,5 @@ operand-back last name (RegisterList n) s = list name n s
 operand-back last name (Address n) s = address name n s
 operand-back last name (Memory m) s = memory-back name m (s .1)
 operand-back last name (Option n) s = option name n (s .0) (s .1)
+operand-back last name (Coprocessor n) s = coprocessor name n s
+operand-back last name (CoprocessorRegister n) s = co-register name n s

@@ -10,6 +10,7 @@ use Rattle.insn.specs.declared.Insn.{Insn}
 use Rattle.insn.specs.declared.Operand.{Operand}
 use Rattle.insn.specs.declared.Operand.the-variants.{Empty, Register, Shifted, ShiftBy, SaturateShift, Rotate, Count, Number, StatusMask}
 use Rattle.insn.specs.declared.Operand.the-variants.{StatusSource, WriteBack, List as RegisterList, Address, Memory, Option}
+use Rattle.insn.specs.declared.Operand.the-variants.{Coprocessor, CoprocessorRegister}
 use Rattle.insn.proofs.Places.{spread-append, spread-unused}
 use Rattle.line_spelling.specs.Line.{nameText, operandText, placeText, placesText, flowText, insnText}
 use Rattle.line_spelling.proofs.Formed.{Sound, Laid, Formed}
@@ -37,6 +38,8 @@ module _ (last : Bool) (name : ℕ) where
   standing (Address n) s = refl
   standing (Memory m) s = refl
   standing (Option n) s = refl
+  standing (Coprocessor n) s = refl
+  standing (CoprocessorRegister n) s = refl
 
 in-order : (name : ℕ) (ops : List Operand) → Laid name ops → (rest : List ℕ) → placesText (map used ops) ++ rest ≡ spaced ops rest
 in-order name [] laid rest = refl

@@ -17,17 +17,25 @@ use Rattle.insn.specs.declared.Mem.{Mem}
 use Rattle.insn.specs.declared.Operand.{Operand}
 use Rattle.insn.specs.declared.Operand.the-variants.{Empty, Register, Shifted, ShiftBy, SaturateShift, Rotate, Count, Number, StatusMask}
 use Rattle.insn.specs.declared.Operand.the-variants.{StatusSource, WriteBack, List as RegisterList, Address, Memory, Option}
+use Rattle.insn.specs.declared.Operand.the-variants.{Coprocessor, CoprocessorRegister}
 use Rattle.insn.specs.declared.Place.{Place}
 use Rattle.insn.specs.declared.Flow.{Flow}
 use Rattle.insn.specs.declared.Insn.{Insn}
 use Rattle.insn.specs.declared.Decoded.{Decoded}
-use Rattle.insn.specs.Roots.{roots}
+use Rattle.insn.specs.Roots.{name, roots}
 use Rattle.a32.specs.Decode.{decodeOf}
-use Rattle.line_spelling.specs.Names.{suffixes, masks, shifts, sources, barriers, registers, flows, entry}
+use Rattle.line_spelling.specs.Names.{suffixes, masks, shifts, sources, barriers, registers, coprocessors, coRegisters, flows, entry}
+
+-- 02, P9: "In the `l` names the condition stands before the `l`": such a root is the stem, a root too, and the tail `l`
+abbrev pub stemOf : ℕ → ℕ
+stemOf n = pick (eqb n (name "ldcl")) (name "ldc") (pick (eqb n (name "stcl")) (name "stc") n)
+
+abbrev pub tailOf : ℕ → List ℕ
+tailOf n = pick (eqb (stemOf n) n) [] (bytes "l")
 
 -- "A name is its root, then eq ne hs lo mi pl vs vc hi ls ge lt gt le, then nothing for 14 and 15"
 unfoldable pub nameText : ℕ → Cond → List ℕ
-nameText name cond = entry roots name ++ entry suffixes (cond .0)
+nameText name cond = entry roots (stemOf name) ++ entry suffixes (cond .0) ++ tailOf name
 
 unfoldable pub registerText : Reg → List ℕ
 registerText r = entry registers (r .0)
@@ -61,7 +69,7 @@ memoryText m =
     bytes "]"
 
 -- "write-back adds `!`; shifted `r2,lsr,3`; shift alone `asr,32`; by register `lsl,r3`; numbers `#`; rotate `ror,8`; list four hex
--- digits in braces; address `@` and eight"; 02, P1: the option "is spelled from the source's BARRIERS table"
+-- digits in braces; address `@` and eight"; 02, P1: the option "is spelled from the source's BARRIERS table"; P9: coprocessors and their registers
 unfoldable pub operandText : Operand → List ℕ
 operandText Empty = []
 operandText (Register r) = registerText r
@@ -78,6 +86,8 @@ operandText (RegisterList n) = bytes "{" ++ hexOf 4 n ++ bytes "}"
 operandText (Address n) = bytes "@" ++ hexOf 8 n
 operandText (Memory m) = memoryText m
 operandText (Option n) = entry barriers n
+operandText (Coprocessor n) = entry coprocessors n
+operandText (CoprocessorRegister n) = entry coRegisters n
 
 -- "one space between": before each operand; an unused place has none
 unfoldable pub placeText : Operand → List ℕ

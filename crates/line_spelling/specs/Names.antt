@@ -52,6 +52,19 @@ registers =
     "r8" ∷ "r9" ∷ "r10" ∷ "r11" ∷ "r12" ∷ "sp" ∷ "lr" ∷ "pc" ∷
     []
 
+-- a coprocessor, and a register of one, by number: PN and CN of mod.rs
+abbrev pub coprocessors : List String
+coprocessors =
+    "p0" ∷ "p1" ∷ "p2" ∷ "p3" ∷ "p4" ∷ "p5" ∷ "p6" ∷ "p7" ∷
+    "p8" ∷ "p9" ∷ "p10" ∷ "p11" ∷ "p12" ∷ "p13" ∷ "p14" ∷ "p15" ∷
+    []
+
+abbrev pub coRegisters : List String
+coRegisters =
+    "c0" ∷ "c1" ∷ "c2" ∷ "c3" ∷ "c4" ∷ "c5" ∷ "c6" ∷ "c7" ∷
+    "c8" ∷ "c9" ∷ "c10" ∷ "c11" ∷ "c12" ∷ "c13" ∷ "c14" ∷ "c15" ∷
+    []
+
 -- by the number of a flow: "next jump jump? ijump call icall ret trap"
 abbrev pub flows : List String
 flows =

@@ -121,6 +121,18 @@ module _ (w : ℕ) where
   pub six-24 : field w 20 6 / 16 % 2 ≡ field w 24 1
   six-24 = sym (part w 20 6 4 1 refl)
 
+  pub six-23 : field w 20 6 / 8 % 2 ≡ field w 23 1
+  six-23 = sym (part w 20 6 3 1 refl)
+
+  pub six-22 : field w 20 6 / 4 % 2 ≡ field w 22 1
+  six-22 = sym (part w 20 6 2 1 refl)
+
+  pub six-21 : field w 20 6 / 2 % 2 ≡ field w 21 1
+  six-21 = sym (part w 20 6 1 1 refl)
+
+  pub six-20 : field w 20 6 / 1 % 2 ≡ field w 20 1
+  six-20 = sym (part w 20 6 0 1 refl)
+
   pub eight-27 : field w 20 8 / 128 % 2 ≡ field w 25 3 / 4 % 2
   eight-27 = sym (part w 20 8 7 1 refl) ∙ part w 25 3 2 1 refl
 
@@ -214,11 +226,11 @@ module _ (w : ℕ) where
   both-24-4 = splits w 24 3 1 ∙ ap (λ (x : ℕ). field w 25 3 * 2 + x) op-24
 
 -- a test of 24:20 is one of 24:21 and one of bit 20
-abbrev same : Bool → Bool → Bool
+abbrev pub same : Bool → Bool → Bool
 same true b = b
 same false b = not b
 
-same→eq : (a b : Bool) → T (same a b) → a ≡ b
+pub same→eq : (a b : Bool) → T (same a b) → a ≡ b
 same→eq true true t = refl
 same→eq false false t = refl
 same→eq true false t = absurd t
@@ -339,6 +351,8 @@ pub ruleset high-bits = (high-6-bit, high-5-bit)
 
 -- by bits 25 and 24
 pub ruleset six-bits = (six-25, six-24)
+
+pub ruleset all-six = (six-25, six-24, six-23, six-22, six-21, six-20)
 
 -- by 27:25 and single bits
 pub ruleset eight-bits = (eight-is-196, eight-is-197, eight-27, eight-26, eight-25, eight-24, eight-23, eight-22, eight-21, eight-20)

@@ -10,7 +10,7 @@ use Rattle.insn.specs.declared.Decoded.{Decoded}
 use Rattle.insn.specs.declared.Mem.{Mem}
 use Rattle.insn.specs.declared.Operand.{Operand}
 use Rattle.insn.specs.declared.Operand.the-variants.{Empty, Register, Shifted, ShiftBy, SaturateShift, Rotate, Count, Number, StatusMask}
-use Rattle.insn.specs.declared.Operand.the-variants.{StatusSource, WriteBack, Address, Memory, Option}
+use Rattle.insn.specs.declared.Operand.the-variants.{StatusSource, WriteBack, Address, Memory, Option, Coprocessor, CoprocessorRegister}
 use Rattle.insn.specs.declared.Operand.the-variants as Op
 
 abbrev none : Mem
@@ -32,6 +32,8 @@ memory (Op.List n) = none
 memory (Address n) = none
 memory (Memory m) = m
 memory (Option n) = none
+memory (Coprocessor n) = none
+memory (CoprocessorRegister n) = none
 
 abbrev at : ℕ → Decoded → Mem
 at n d = memory (getD (d .insn .ops) n (record { operand = Empty }) .operand)

@@ -425,6 +425,26 @@ branchAndBlock w =
     []
     )
 
+-- A5.6, table A5-22: op1 25:20, op 4, coproc 11:8, Rn 19:16. The first of its rows are those that the others leave out by a "not". Coprocessors
+-- 10 and 11 are chapter A7's
+unfoldable pub coprocessor : ℕ → String
+coprocessor w =
+    tableOf (field w 20 6 ∷ field w 4 1 ∷ field w 8 4 ∷ field w 16 4 ∷ [])
+    (
+    (is "00000x" ∷ any ∷ any ∷ any ∷ []) ⇒ "UNDEFINED" ∷
+    (is "11xxxx" ∷ any ∷ any ∷ any ∷ []) ⇒ "SVC" ∷
+    (any ∷ any ∷ is "101x" ∷ any ∷ []) ⇒ "Advanced SIMD, Floating-point" ∷
+    (is "000100" ∷ any ∷ any ∷ any ∷ []) ⇒ "MCRR" ∷
+    (is "000101" ∷ any ∷ any ∷ any ∷ []) ⇒ "MRRC" ∷
+    (is "0xxxx0" ∷ any ∷ any ∷ any ∷ []) ⇒ "STC" ∷
+    (is "0xxxx1" ∷ any ∷ any ∷ isnt "1111" ∷ []) ⇒ "LDC (immediate)" ∷
+    (is "0xxxx1" ∷ any ∷ any ∷ is "1111" ∷ []) ⇒ "LDC (literal)" ∷
+    (is "10xxxx" ∷ is "0" ∷ any ∷ any ∷ []) ⇒ "CDP" ∷
+    (is "10xxx0" ∷ is "1" ∷ any ∷ any ∷ []) ⇒ "MCR" ∷
+    (is "10xxx1" ∷ is "1" ∷ any ∷ any ∷ []) ⇒ "MRC" ∷
+    []
+    )
+
 -- A5.7.1, table A5-24: op1 26:20, op2 7:4, Rn 19:16
 unfoldable pub hintsAndSimd : ℕ → String
 hintsAndSimd w =
@@ -469,16 +489,16 @@ unconditional w =
     (is "100xx1x0" ∷ any ∷ []) ⇒ "SRS" ∷
     (is "100xx0x1" ∷ any ∷ []) ⇒ "RFE" ∷
     (is "101xxxxx" ∷ any ∷ []) ⇒ "BLX (immediate)" ∷
-    (is "11000x11" ∷ any ∷ []) ⇒ "LDC, LDC2" ∷
-    (is "11000x10" ∷ any ∷ []) ⇒ "STC, STC2" ∷
-    (is "11000100" ∷ any ∷ []) ⇒ "MCRR, MCRR2" ∷
-    (is "11000101" ∷ any ∷ []) ⇒ "MRRC, MRRC2" ∷
+    (is "11000x11" ∷ any ∷ []) ⇒ "LDC2" ∷
+    (is "11000x10" ∷ any ∷ []) ⇒ "STC2" ∷
+    (is "11000100" ∷ any ∷ []) ⇒ "MCRR2" ∷
+    (is "11000101" ∷ any ∷ []) ⇒ "MRRC2" ∷
     (is "11000x0x" ∷ any ∷ []) ⇒ "UNDEFINED" ∷
-    (is "110xxxx0" ∷ any ∷ []) ⇒ "STC, STC2" ∷
-    (is "110xxxx1" ∷ any ∷ []) ⇒ "LDC, LDC2" ∷
-    (is "1110xxxx" ∷ is "0" ∷ []) ⇒ "CDP, CDP2" ∷
-    (is "1110xxx0" ∷ is "1" ∷ []) ⇒ "MCR, MCR2" ∷
-    (is "1110xxx1" ∷ is "1" ∷ []) ⇒ "MRC, MRC2" ∷
+    (is "110xxxx0" ∷ any ∷ []) ⇒ "STC2" ∷
+    (is "110xxxx1" ∷ any ∷ []) ⇒ "LDC2" ∷
+    (is "1110xxxx" ∷ is "0" ∷ []) ⇒ "CDP2" ∷
+    (is "1110xxx0" ∷ is "1" ∷ []) ⇒ "MCR2" ∷
+    (is "1110xxx1" ∷ is "1" ∷ []) ⇒ "MRC2" ∷
     []
     )
 
@@ -493,6 +513,6 @@ tableRow w =
     (any ∷ is "011" ∷ is "0" ∷ []) ⇒ loadStore w ∷
     (any ∷ is "011" ∷ is "1" ∷ []) ⇒ media w ∷
     (any ∷ is "10x" ∷ any ∷ []) ⇒ branchAndBlock w ∷
-    (any ∷ is "11x" ∷ any ∷ []) ⇒ "coprocessor instructions, and Supervisor Call" ∷
+    (any ∷ is "11x" ∷ any ∷ []) ⇒ coprocessor w ∷
     []
     )

@@ -21,6 +21,7 @@ use Rattle.insn.specs.declared.Flow.{Flow}
 use Rattle.insn.specs.declared.Flow.the-variants.{Next, Branch, CondBranch, IndirectBranch, Call, IndirectCall, Return, Trap}
 use Rattle.insn.specs.declared.Operand.{Operand}
 use Rattle.insn.specs.declared.Operand.the-variants.{Register, Count, Number, StatusMask, StatusSource, WriteBack, Address, Option}
+use Rattle.insn.specs.declared.Operand.the-variants.{Coprocessor, CoprocessorRegister}
 use Rattle.insn.specs.declared.Operand.the-variants as Op
 use Rattle.insn.specs.declared.Status.the-variants.{Apsr, Spsr}
 use Rattle.manual.specs.A5.{tableRow}
@@ -129,11 +130,13 @@ refusedRows =
     "USAD8" ∷ "USADA8" ∷
     -- A5.5
     "STM (User registers)" ∷ "LDM (User registers)" ∷ "LDM (exception return)" ∷
+    -- A5.6
+    "SVC" ∷
     -- A5.7.1
     "CPS" ∷ "SETEND" ∷ "Advanced SIMD data-processing" ∷ "Advanced SIMD load/store" ∷ "unallocated memory hint" ∷
     "PLI (immediate, literal)" ∷ "PLI (register)" ∷ "PLDW (register)" ∷ "PLD (register)" ∷
     -- A5.7
-    "SRS" ∷ "RFE" ∷ "LDC, LDC2" ∷ "STC, STC2" ∷ "MCRR, MCRR2" ∷ "MRRC, MRRC2" ∷ "CDP, CDP2" ∷ "MCR, MCR2" ∷ "MRC, MRC2" ∷
+    "SRS" ∷ "RFE" ∷ "LDC2" ∷ "STC2" ∷ "MCRR2" ∷ "MRRC2" ∷ "CDP2" ∷ "MCR2" ∷ "MRC2" ∷
     []
 
 pub record Page : Type 0 where
@@ -258,6 +261,36 @@ module _ (w addr : ℕ) where
 
   abbrev pub storeMultiple : String → Said
   storeMultiple root = reading root Next (base ∷ registers ∷ [])
+
+  -- "cp = UInt(coproc)"; its registers and opcodes
+  abbrev pub cp : Operand
+  cp = Coprocessor (field w 8 4)
+
+  abbrev pub CR : ℕ → Operand
+  CR lo = CoprocessorRegister (field w lo 4)
+
+  abbrev pub opc : ℕ → ℕ → Operand
+  opc lo n = Count (pos (field w lo n))
+
+  -- "imm32 = ZeroExtend(imm8:'00', 32)"
+  abbrev pub imm8Words : ℕ
+  imm8Words = field w 0 8 * 2 ^ 2
+
+  -- LDC and STC, with a long form, "D == '1'". With P and W clear imm8 is an option for the coprocessor: 01's answer has no place for that
+  abbrev pub coprocessorTransfer : String → String → String → AddrMode → Said
+  coprocessorTransfer title plain long mode =
+      pick (both (not (isSet w 24)) (not (isSet w 21)))
+      (beyond title)
+      (readingAs (pick (isSet w 22) (name long) (name plain)) Next
+      (cp ∷ CR 12 ∷ memory (field w 16 4) Absent (offset w imm8Words) mode 4 false (isMinusZero w imm8Words) ∷ []))
+
+  -- "MRC<c> <coproc>, #<opc1>, <Rt>, <CRn>, <CRm>{, #<opc2>}", and MCR
+  abbrev pub registerMove : String → Said
+  registerMove root = reading root Next (cp ∷ opc 21 3 ∷ R w 12 ∷ CR 16 ∷ CR 0 ∷ opc 5 3 ∷ [])
+
+  -- "MRRC<c> <coproc>, #<opc1>, <Rt>, <Rt2>, <CRm>", and MCRR
+  abbrev pub pairMove : String → Said
+  pairMove root = reading root Next (cp ∷ opc 4 4 ∷ R w 12 ∷ R w 16 ∷ CR 0 ∷ [])
 
   -- PC is the instruction's address and 8 (A2.3.1); addresses have 32 bits
   abbrev pub fromPC : ℕ → ℕ
@@ -462,6 +495,15 @@ module _ (w addr : ℕ) where
       -- "BranchWritePC(PC + imm32)"; 01 tells a branch under a condition from one without
       ("B" := reading "b" (pick (eqb (field w 28 4) 14) (Branch (fromPC imm24)) (CondBranch (fromPC imm24))) (Address (fromPC imm24) ∷ [])) ∷
       ("BL" := reading "bl" (Call (fromPC imm24)) (Address (fromPC imm24) ∷ [])) ∷
+      -- A5.6; A8.8.107: with t = 15 "APSR_nzcv" is written, which 01's answer has no place for
+      ("STC" := coprocessorTransfer "STC" "stc" "stcl" (addressing w)) ∷
+      ("LDC (immediate)" := coprocessorTransfer "LDC (immediate)" "ldc" "ldcl" (addressing w)) ∷
+      ("LDC (literal)" := coprocessorTransfer "LDC (literal)" "ldc" "ldcl" Offset) ∷
+      ("MCRR" := pairMove "mcrr") ∷
+      ("MRRC" := pairMove "mrrc") ∷
+      ("CDP" := reading "cdp" Next (cp ∷ opc 20 4 ∷ CR 12 ∷ CR 16 ∷ CR 0 ∷ opc 5 3 ∷ [])) ∷
+      ("MCR" := registerMove "mcr") ∷
+      ("MRC" := pick (eqb (field w 12 4) 15) (beyond "MRC") (registerMove "mrc")) ∷
       -- other names of words that are read above
       ("ADR" := names "ADR") ∷
       ("SUBS PC, LR and related instructions" := names "SUBS PC, LR and related instructions") ∷

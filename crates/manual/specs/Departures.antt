@@ -2,13 +2,14 @@
 -- under its name.
 use mathlib.Core.Bool.{Bool, true, false, not}
 use mathlib.Core.List.{List, [], _∷_}
-use Prim.Native.Nat.{ℕ, _%_}
+use Prim.Native.Nat.{ℕ, _*_, _%_, _^_}
 use Prim.Native.String.{String}
 use lib.Dec.{eqb, ltb}
 use Rattle.word.specs.Choice.{pick, both}
 use Rattle.word.specs.Field.{field}
 use Rattle.word.specs.Refusal.{NO_ROW}
 use Rattle.insn.specs.Answer.{insnOf, accepted, refused}
+use Rattle.insn.specs.Roots.{name}
 use Rattle.insn.specs.declared.AddrMode.{AddrMode}
 use Rattle.insn.specs.declared.AddrMode.the-variants.{Offset, PreIndex, PostIndex}
 use Rattle.insn.specs.declared.Decoded.{Decoded}
@@ -16,7 +17,8 @@ use Rattle.insn.specs.declared.Index.the-variants.{Absent}
 use Rattle.insn.specs.declared.Flow.{Flow}
 use Rattle.insn.specs.declared.Flow.the-variants.{Next, IndirectBranch}
 use Rattle.manual.specs.A8.{isAmong, otherPageOf, Said, reads, beyond, names, unlisted, undefined, unpredictable, Page, saidAmong, saidOf}
-use Rattle.manual.specs.A8.{reading, transfers, immediate, withIndex, unprivileged, extra, one, pair, _:=_}
+use Rattle.manual.specs.A8.{readingAs, reading, transfers, immediate, withIndex, unprivileged, extra, one, pair, cp, CR, imm8Words, registerMove}
+use Rattle.manual.specs.A8.{_:=_}
 use Rattle.manual.specs.Reads.{isSet, writesPC, addressing, offset, isMinusZero, memory}
 
 pub data Departure : Type 0 where
@@ -40,6 +42,8 @@ pub data Departure : Type 0 where
   preload-bits : Departure
   preload-literal : Departure
   barrier-bits : Departure
+  unindexed : Departure
+  flags-15 : Departure
 
 abbrev pub compares : List String
 compares =
@@ -85,6 +89,9 @@ extends =
 
 abbrev pub hints : List String
 hints = "NOP" ∷ "YIELD" ∷ "WFE" ∷ "WFI" ∷ "SEV" ∷ "DBG" ∷ "unallocated hint" ∷ []
+
+abbrev pub coprocessorTransfers : List String
+coprocessorTransfers = "STC" ∷ "LDC (immediate)" ∷ "LDC (literal)" ∷ []
 
 abbrev pub preloads : List String
 preloads = "PLDW (immediate)" ∷ "PLD (immediate)" ∷ "PLD (literal)" ∷ []
@@ -143,6 +150,10 @@ coverings w =
     (minus-zero covers preloads when isMinusZero w (field w 0 12)) ∷
     (preload-literal covers ("UNPREDICTABLE" ∷ []) when literalPldw w) ∷
     (barrier-bits covers barriers when not (eqb (field w 8 12) 0xff0)) ∷
+    (unindexed covers coprocessorTransfers when both (not (isSet w 24)) (not (isSet w 21))) ∷
+    (literal-index covers ("LDC (literal)" ∷ []) when isSet w 21) ∷
+    (minus-zero covers coprocessorTransfers when isMinusZero w (field w 0 8 * 2 ^ 2)) ∷
+    (flags-15 covers ("MRC" ∷ []) when eqb (field w 12 4) 15) ∷
     []
 
 -- the first that covers a word of this row
@@ -181,6 +192,12 @@ module _ (w addr : ℕ) where
   abbrev preloading : String → Said
   preloading root = reading w addr root Next (memory (field w 16 4) Absent (offset w (field w 0 12)) Offset 1 false false ∷ [])
 
+  -- any P and W give a mode that writes back or has an offset, from R[15] too; minus zero is told from zero in none
+  abbrev coprocessorMoving : String → String → Said
+  coprocessorMoving plain long =
+      readingAs w addr (pick (isSet w 22) (name long) (name plain)) Next
+      (cp w addr ∷ CR w addr 12 ∷ memory (field w 16 4) Absent (offset w (imm8Words w addr)) (addressing w) 4 false false ∷ [])
+
   -- any load to 15 is a branch
   abbrev pub portLoads : List Page
   portLoads =
@@ -200,6 +217,9 @@ module _ (w addr : ℕ) where
       ("PLDW (immediate)" := preloading "pldw") ∷
       ("PLD (immediate)" := preloading "pld") ∷
       ("PLD (literal)" := preloading "pld") ∷
+      ("STC" := coprocessorMoving "stc" "stcl") ∷
+      ("LDC (immediate)" := coprocessorMoving "ldc" "ldcl") ∷
+      ("LDC (literal)" := coprocessorMoving "ldc" "ldcl") ∷
       []
 
   -- what the decoder answers, of a row of A5's tables and the page that reads it
@@ -224,3 +244,5 @@ module _ (w addr : ℕ) where
   portOf preload-bits row page = refused NO_ROW
   portOf preload-literal row page = answered (preloading "pldw")
   portOf barrier-bits row page = refused NO_ROW
+  portOf unindexed row page = answered (saidAmong page portLoads)
+  portOf flags-15 row page = answered (registerMove w addr "mrc")

@@ -10,6 +10,7 @@ use Rattle.word.specs.Field.{field}
 use Rattle.word.specs.Refusal.{NO_ROW}
 use Rattle.insn.specs.Answer.{refused}
 use Rattle.insn.specs.declared.Decoded.{Decoded}
+use Rattle.a32_coproc.specs.Coproc.{floatingOf}
 use Rattle.a32.specs.Decode.{decodeOf}
 use Rattle.manual.specs.A5.{tableRow}
 use Rattle.manual.specs.A8.{Said, reads, beyond, names, unlisted, undefined, unpredictable, pageOf, saidOf}
@@ -32,9 +33,9 @@ StandsAs (departs it) row page w addr d = (d ≡ portOf w addr it row page) × (
 abbrev pub Stands : String → ℕ → ℕ → Decoded → Type 0
 Stands row w addr d = StandsAs (standingOf (pageOf row w) w) row (pageOf row w) w addr d
 
--- demand 2's range: condition 15, or bits 27:26 other than 11
+-- demand 2's range: condition 15, or bits 27:26 other than 11, or coprocessors other than 10 and 11
 abbrev pub inRange : ℕ → Bool
-inRange w = not (both (not (eqb (field w 28 4) 15)) (eqb (field w 26 2) 3))
+inRange w = not (both (not (eqb (field w 28 4) 15)) (both (eqb (field w 26 2) 3) (floatingOf w)))
 
 abbrev pub StandsAt : ℕ → ℕ → Type 0
 StandsAt w addr = Stands (tableRow w) w addr (decodeOf w addr)

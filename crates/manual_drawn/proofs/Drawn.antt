@@ -9,7 +9,8 @@ use Rattle.word.specs.Choice.{pick, both, by-test}
 use Rattle.word.specs.Every.{left, right}
 use Rattle.word.specs.Field.{field}
 use Rattle.insn.specs.declared.Decoded.{Decoded}
-use Rattle.a32.specs.Decode.{decodeOf}
+use Rattle.a32_coproc.specs.Coproc.{floatingOf}
+use Rattle.a32.specs.Decode.{decodeOf, groupOf}
 use Rattle.a32_elsewhere.proofs.Elsewhere.{refused-anywhere}
 use Rattle.encode_home.specs.declared.Filler.the-variants.{Manual}
 use Rattle.encode_home.specs.Home.{putsOf, putAll, homeOf}
@@ -19,7 +20,7 @@ use Rattle.manual.specs.A8.{Said, reads, beyond, names, unlisted, undefined, un
 use Rattle.manual.specs.Departures.{Standing, follows, departs, Covering, standingAmong, standingOf, answered}
 use Rattle.manual.specs.ShouldBe.{Drawing, drawings, bitsAmong, shouldBe, asDrawn}
 use Rattle.manual.specs.Stands.{Agrees, StandsAs, inRange}
-use Rattle.manual.proofs.Fields.{pick-same}
+use Rattle.manual.proofs.Fields.{group-26-2, by-field, both-false, pick-same, _also_}
 use Rattle.manual_follows.proofs.Follows.{follows-the-manual}
 use Rattle.manual_drawn.specs.Exceptions.{exceptions, exceptedAs, excepted}
 use Rattle.manual_drawn.proofs.Pages.{answerOf, drawnBut, drawn-so, isKnown, page-drawn}
@@ -30,7 +31,7 @@ abbrev allDrawn : (String → Bool) → List Drawing → Bool
 allDrawn f [] = true
 allDrawn f (d ∷ ds) = both (allOf f (d .titles)) (allDrawn f ds)
 
-abbrev allCovered : (String → Bool) → List Covering → Bool
+abbrev pub allCovered : (String → Bool) → List Covering → Bool
 allCovered f [] = true
 allCovered f (c ∷ cs) = both (allOf f (c .rows)) (allCovered f cs)
 
@@ -44,7 +45,7 @@ module _ (f : String → Bool) (page : String) (not-f : f page ≡ false) where
   not-drawn (d ∷ ds) t =
       rw (not-among (d .titles) (left (allOf f (d .titles)) (allDrawn f ds) t)) (not-drawn ds (right (allOf f (d .titles)) (allDrawn f ds) t))
 
-  not-covered : (cs : List Covering) → T (allCovered f cs) → standingAmong page cs ≡ follows
+  pub not-covered : (cs : List Covering) → T (allCovered f cs) → standingAmong page cs ≡ follows
   not-covered [] t = refl
   not-covered (c ∷ cs) t =
       rw (not-among (c .rows) (left (allOf f (c .rows)) (allCovered f cs) t)) (not-covered cs (right (allOf f (c .rows)) (allCovered f cs) t))
@@ -73,13 +74,18 @@ answers w {d} page follows s = agrees (saidOf w 0 page) s
 answers w page (departs it) s = s .0
 
 module _ (w : ℕ) (ok : (decodeOf w 0) .refusal ≡ 0) where
-  ranged : inRange w ≡ true
-  ranged = unfold decodeOf in
+  pub ranged : inRange w ≡ true
+  ranged = unfold decodeOf groupOf in
       by-test (eqb (field w 28 4) 15)
       (λ c. simp c)
-      (λ c. by-test (eqb (field w 26 2) 3) (λ p. refusal (simp (c, p) at ok)) (λ p. simp (c, p)))
+      (λ c. by-test (floatingOf w)
+      (λ f. by-field w 25 3
+      ((λ g. simp (c, group-26-2, g)) also (λ g. simp (c, group-26-2, g)) also (λ g. simp (c, group-26-2, g)) also (λ g. simp (c, group-26-2, g)) also
+      (λ g. simp (c, group-26-2, g)) also (λ g. simp (c, group-26-2, g)) also
+      (λ g. refusal (simp (c, g, f) at ok)) also (λ g. refusal (simp (c, g, f) at ok)) also tt))
+      (λ f. simp (c, f, both-false)))
 
-  answer-is : decodeOf w 0 ≡ answerOf w (standingOf (rowOf w) w) (rowOf w)
+  pub answer-is : decodeOf w 0 ≡ answerOf w (standingOf (rowOf w) w) (rowOf w)
   answer-is = unfold rowOf in answers w (pageOf (tableRow w) w) (standingOf (pageOf (tableRow w) w) w) (follows-the-manual w 0 ranged)
 
   home-is : homeOf Manual w ≡ putAll Manual (putsOf ((decodeOf w 0) .insn)) w

@@ -11,7 +11,9 @@ use lib.Dec.{T, eqb, leb}
 use lib.Text.{eqt, eqt→eq}
 use Rattle.word.specs.Choice.{pick, both, by-test, passes}
 use Rattle.word.specs.Field.{field, small, splits}
+use Rattle.insn.specs.Roots.{name}
 use Rattle.insn.specs.declared.Decoded.{Decoded}
+use Rattle.insn.specs.declared.Insn.{Insn}
 use Rattle.a32_imm.specs.Imm.{leastOf}
 use Rattle.encode_home.specs.declared.Filler.the-variants.{Manual}
 use Rattle.encode_home.specs.Home.{putsOf, putAll}
@@ -27,7 +29,7 @@ use Rattle.manual.specs.ShouldBe.{shouldBe, asDrawn}
 use Rattle.manual.proofs.Fields.{by-field, both-false, pick-same, no-true, _also_}
 use Rattle.manual.proofs.Pages.{returns}
 use Rattle.manual_drawn.specs.Exceptions.{exceptedAs}
-use Rattle.manual_drawn.proofs.Told.{allOf, one-of, moves, noField, msr-told, pld-told, hint-told, returns-tell}
+use Rattle.manual_drawn.proofs.Told.{allOf, one-of, moves, others, noField, msr-told, pld-told, hint-told, returns-tell}
 
 -- what the decoder answers at address 0, by the page and how the word stands there
 abbrev pub answerOf : ℕ → Standing → String → Decoded
@@ -68,7 +70,7 @@ singles =
     "TST (immediate)" ∷ "TEQ (immediate)" ∷ "CMP (immediate)" ∷ "CMN (immediate)" ∷ "QADD" ∷ "QSUB" ∷ "QDADD" ∷ "QDSUB" ∷ "STREX" ∷ "STREXB" ∷
     "STREXH" ∷ "LDREX" ∷ "LDREXB" ∷ "LDREXH" ∷ "MRS" ∷ "MSR (register)" ∷ "BX" ∷ "BXJ" ∷ "BLX (register)" ∷ "CLZ" ∷ "SDIV" ∷ "UDIV" ∷ []
 
-abbrev reversals : List String
+abbrev pub reversals : List String
 reversals = "REV" ∷ "REV16" ∷ "RBIT" ∷ "REVSH" ∷ []
 
 abbrev basedPreloads : List String
@@ -105,12 +107,34 @@ module _ (w : ℕ) where
       (λ u. by-test (both (not (isSet w 24)) (isSet w 21)) (λ t. simp (u, t) tt)
       (λ t. by-test (eqb (field w 12 4 % 2) 1) (λ odd. simp (u, t, odd) tt) (λ odd. simp (u, t, odd) tt)))
 
+  -- no entry puts anything into 24, and none but those about ldc and stc into 21
+  kept-24 : (i : Insn) → field (putAll Manual (putsOf i) w) 24 1 ≡ field w 24 1
+  kept-24 i = simp (untouched Manual 24)
+
+  kept-21 : (i : Insn) → leb (name "ldc") (i .name) ≡ false → field (putAll Manual (putsOf i) w) 21 1 ≡ field w 21 1
+  kept-21 i other = simp (untouched Manual 21, other)
+
+  ruleset kept = (kept-24, kept-21)
+
   literals-drawn : Drawn w literals
-  literals-drawn = unfold drawnBut asDrawn shouldBe exceptedAs in
-      by-field w 24 1
-      ((λ p. simp (untouched Manual 24 tt, untouched Manual 21 tt, pick-same, p) tt) also
+  literals-drawn = unfold drawnBut asDrawn shouldBe exceptedAs saidOf standingOf in
+      by-test (eqb (field w 12 4) 15)
+      (λ t. let pc : field w 12 4 ≡ 15 = eqb-true _ 15 t in by-field w 24 1
+      ((λ p. by-field w 21 1 ((λ b. simp (kept, pc, p, b) tt) also (λ b. simp (kept, pc, p, b) tt) also tt)) also
       (λ p. by-field w 21 1
-      ((λ b. simp (untouched Manual 24 tt, untouched Manual 21 tt, pick-same, p, b) tt) also (λ b. simp (untouched Manual 24 tt, untouched Manual 21 tt, pick-same, p, b) tt) also tt)) also tt)
+      ((λ b. by-test (isMinusZero w (field w 0 12)) (λ z. simp (kept, pc, p, b, z) tt) (λ z. simp (kept, pc, p, b, z) tt)) also
+      (λ b. simp (kept, pc, p, b) tt) also tt)) also tt))
+      (λ t. by-test (eqb (field w 12 4 % 2) 1)
+      (λ o. by-field w 24 1
+      ((λ p. by-field w 21 1 ((λ b. simp (kept, t, o, p, b) tt) also (λ b. simp (kept, t, o, p, b) tt) also tt)) also
+      (λ p. by-field w 21 1
+      ((λ b. by-test (isMinusZero w (field w 0 12)) (λ z. simp (kept, t, o, p, b, z) tt) (λ z. simp (kept, t, o, p, b, z) tt)) also
+      (λ b. simp (kept, t, o, p, b) tt) also tt)) also tt))
+      (λ o. by-field w 24 1
+      ((λ p. by-field w 21 1 ((λ b. simp (kept, t, o, p, b) tt) also (λ b. simp (kept, t, o, p, b) tt) also tt)) also
+      (λ p. by-field w 21 1
+      ((λ b. by-test (isMinusZero w (field w 0 12)) (λ z. simp (kept, t, o, p, b, z) tt) (λ z. simp (kept, t, o, p, b, z) tt)) also
+      (λ b. simp (kept, t, o, p, b) tt) also tt)) also tt)))
 
   reversals-drawn : Drawn w reversals
   reversals-drawn = unfold drawnBut asDrawn shouldBe exceptedAs saidOf standingOf putsOf in
@@ -149,7 +173,7 @@ module _ (w : ℕ) where
       (λ pc. simp pc tt)
 
   -- MSR of no field has zeros
-  mask-is : eqb (field w 22 1 * 2 ^ 4 + field w 16 4) 0 ≡ noField w
+  pub mask-is : eqb (field w 22 1 * 2 ^ 4 + field w 16 4) 0 ≡ noField w
   mask-is =
       by-field w 22 1
       ((λ r. simp (r, zero-add)) also (λ r. simp r (ne-eqb (2 ^ 4 + field w 16 4) 0 (λ e. omega (arith, e)))) also tt)
@@ -177,19 +201,25 @@ module _ (w : ℕ) where
       (λ m. by-field w 20 1 ((λ s. simp (L.apart, m, s) tt) also (λ s. simp (L.apart, m, s) tt) also tt))
       (λ m. by-field w 20 1 ((λ s. simp (L.apart, m, s) tt) also (λ s. simp (L.apart, m, s) tt) also tt))
 
-  no-move : (row : String) → not (both (isSet w 24) (isSet w 21)) ≡ true → T (moveDrawn row)
-  no-move row e = unfold asDrawn shouldBe in
-      by-field w 24 1
-      ((λ p. simp (untouched Manual 24 tt, p) tt) also
-      (λ p. by-field w 21 1
-      ((λ b. simp (untouched Manual 24 tt, untouched Manual 21 tt, both-false, p, b) tt) also (λ b. absurd (no-true (sym (simp (p, b) at e)))) also tt)) also tt)
+  no-moves : not (both (isSet w 24) (isSet w 21)) ≡ true → T (allOf moveDrawn others)
+  no-moves e = unfold asDrawn shouldBe saidOf otherPageOf putsOf in
+      by-test (isSet w 24)
+      (λ p. by-test (isSet w 21)
+      (λ b. absurd (no-true (sym (simp (p, b) at e))))
+      (λ b. by-field w 20 1
+      ((λ s. simp (both-false, p, b, s) tt) also
+      (λ s. by-test (isSet w 23) (λ u. simp (p, b, s, u) tt) (λ u. simp (p, b, s, u) tt)) also tt)))
+      (λ p. by-field w 20 1
+      ((λ s. simp (p, s) tt) also (λ s. by-test (isSet w 23) (λ u. simp (p, s, u) tt) (λ u. simp (p, s, u) tt)) also tt))
 
   returns-drawn : rowOf w ≡ returns → Drawn w (returns ∷ [])
   returns-drawn row = unfold drawnBut exceptedAs standingOf in
       simp (passes (moveDrawn (tableRow w)) drawn, pick-same) tt
     where
       drawn : T (moveDrawn (tableRow w))
-      drawn = by-test (isAmong (tableRow w) moves) (one-of moveDrawn (tableRow w) moves all-moves) (λ other. no-move (tableRow w) (returns-tell w row other))
+      drawn =
+          by-test (isAmong (tableRow w) moves) (one-of moveDrawn (tableRow w) moves all-moves)
+          (λ other. let told = returns-tell w row other in one-of moveDrawn (tableRow w) others (no-moves (told .1)) (told .0))
 
   -- the other rows on the list are refused
   refused-drawn : T (allOf (λ s. pick (isAmong s hints) true (drawnBut w s)) refusedRows)
@@ -201,7 +231,7 @@ groups =
     flagged ∷ products ∷ compares ∷ singles ∷ extraIndexes ∷ literals ∷ reversals ∷ extends ∷ barriers ∷ basedPreloads ∷ ("PLD (literal)" ∷ []) ∷
     ("MSR (immediate)" ∷ []) ∷ hints ∷ (returns ∷ []) ∷ refusedRows ∷ []
 
-abbrev inSome : String → List (List String) → Bool
+abbrev pub inSome : String → List (List String) → Bool
 inSome s [] = false
 inSome s (g ∷ gs) = pick (isAmong s g) true (inSome s gs)
 

@@ -36,12 +36,16 @@ moves =
     "MOV (register, ARM)" ∷ "LSL (immediate)" ∷ "LSR (immediate)" ∷ "ASR (immediate)" ∷ "RRX" ∷ "ROR (immediate)" ∷ "MVN (register)" ∷
     "MOV (immediate)" ∷ "MVN (immediate)" ∷ []
 
-abbrev others : List String
+abbrev pub others : List String
 others =
     "AND (register)" ∷ "EOR (register)" ∷ "SUB (register)" ∷ "RSB (register)" ∷ "ADD (register)" ∷ "ADC (register)" ∷ "SBC (register)" ∷
     "RSC (register)" ∷ "ORR (register)" ∷ "BIC (register)" ∷ "AND (immediate)" ∷ "EOR (immediate)" ∷ "SUB (immediate, ARM)" ∷
     "RSB (immediate)" ∷ "ADD (immediate, ARM)" ∷ "ADC (immediate)" ∷ "SBC (immediate)" ∷ "RSC (immediate)" ∷ "ORR (immediate)" ∷
     "BIC (immediate)" ∷ "ADR" ∷ []
+
+-- LDRT and its like
+abbrev pub unprivilegedLoads : List String
+unprivilegedLoads = "LDRT" ∷ "LDRBT" ∷ []
 
 -- MSR of no field: mask 0, with bit 22 clear
 abbrev pub noField : ℕ → Bool
@@ -58,6 +62,7 @@ tellings w =
     record { rows = hints; holds = noField w } ∷
     record { rows = "MSR (immediate)" ∷ []; holds = not (noField w) } ∷
     record { rows = "PLD (literal)" ∷ []; holds = isSet w 22 } ∷
+    record { rows = unprivilegedLoads; holds = not (isSet w 24) } ∷
     record { rows = returns ∷ []; holds = false } ∷
     []
 
@@ -101,6 +106,12 @@ module _ (w : ℕ) where
   pld-tells : tells w "PLD (literal)" ≡ isSet w 22
   pld-tells = unfold tells in refl
 
+  ldrt-tells : tells w "LDRT" ≡ not (isSet w 24)
+  ldrt-tells = unfold tells in refl
+
+  ldrbt-tells : tells w "LDRBT" ≡ not (isSet w 24)
+  ldrbt-tells = unfold tells in refl
+
 ruleset rows = (led, nothing, pick-same)
 
 module _ (w : ℕ) where
@@ -133,20 +144,25 @@ module _ (w : ℕ) where
       by-field w 22 1
       ((λ r. simp (rows, seven-22, both-false, r)) also (λ r. simp (rows, pld-tells, seven-22, both-false, r)) also tt)
 
+  load-row : tells w (A.loadStore w) ≡ true
+  load-row = unfold A.loadStore in
+      by-field w 24 1
+      ((λ p. simp (rows, ldrt-tells, ldrbt-tells, p)) also (λ p. simp (rows, op-bits, both-false, p)) also tt)
+
   data-row : tells w (A.dataProcessing w) ≡ true
   unfolding A.dataProcessing A.dataProcessingShifted A.miscellaneous A.saturating A.multiply A.halfwordMultiply A.extraLoadStore A.extraUnprivileged
       A.synchronization
   data-row = simp (rows, register-row, immediate-row, hint-row)
 
   row-tells : tells w (tableRow w) ≡ true
-  row-tells = unfold tableRow A.unconditional A.loadStore A.branchAndBlock in simp (rows, preload-row, data-row, media-row)
+  row-tells = unfold tableRow A.unconditional A.branchAndBlock A.coprocessor in simp (rows, preload-row, load-row, data-row, media-row)
 
 -- by a "SEE" that leads elsewhere
-abbrev noneTo : String → List See → Bool
+abbrev pub noneTo : String → List See → Bool
 noneTo s [] = true
 noneTo s (x ∷ xs) = both (not (eqt (x .to) s)) (noneTo s xs)
 
-own : (row s : String) (xs : List See) → T (noneTo s xs) → seeOf row xs ≡ s → row ≡ s
+pub own : (row s : String) (xs : List See) → T (noneTo s xs) → seeOf row xs ≡ s → row ≡ s
 own row s [] t e = e
 own row s (x ∷ xs) t e =
     by-test (both (isAmong row (x .rows)) (x .holds))
@@ -171,6 +187,14 @@ module _ (w : ℕ) where
   pub pld-told : rowOf w ≡ "PLD (literal)" → isSet w 22 ≡ true
   pld-told row = sym (pld-tells w) ∙ told "PLD (literal)" tt row
 
+  pub unprivileged-told : (page : String) → isAmong page unprivilegedLoads ≡ true → rowOf w ≡ page → isSet w 24 ≡ false
+  unprivileged-told page is row =
+      by-test (isSet w 24)
+      (λ p. absurd
+      (subst T (ap not (told page (one-of (λ s. noneTo s (sees w)) page unprivilegedLoads tt is) row))
+      (one-of (λ s. not (tells w s)) page unprivilegedLoads (simp (ldrt-tells, ldrbt-tells, p) tt) is)))
+      (λ p. p)
+
   pub hint-told : (page : String) → isAmong page hints ≡ true → rowOf w ≡ page → noField w ≡ true
   hint-told page is row = sym (hints-tell w page other is) ∙ told page (one-of (λ s. noneTo s (sees w)) page hints tt is) row
     where
@@ -178,12 +202,13 @@ module _ (w : ℕ) where
       other = by-test (isAmong page others) (λ e. absurd (subst T (ap not e) (one-of (λ s. not (isAmong s others)) page hints tt is))) (λ e. e)
 
   -- and the rows of SUBS PC, LR
-  pub returns-tell : rowOf w ≡ returns → isAmong (tableRow w) moves ≡ false → not (both (isSet w 24) (isSet w 21)) ≡ true
+  pub returns-tell : rowOf w ≡ returns → isAmong (tableRow w) moves ≡ false
+      → (isAmong (tableRow w) others ≡ true) × (not (both (isSet w 24) (isSet w 21)) ≡ true)
   unfolding rowOf pageOf tells
   returns-tell is other =
       by-test (both (isAmong (tableRow w) returning) (both (eqb (field w 12 4) 15) (isSet w 20)))
-      (λ e. simp (among (parts _ _ e .0)) at (row-tells w))
+      (λ e. let among = in-others (parts _ _ e .0) in (among, simp among at (row-tells w)))
       (λ e. absurd (no-true (sym (simp (own (tableRow w) returns (otherSees w) tt (simp e at is)) at (row-tells w)))))
     where
-      among : isAmong (tableRow w) returning ≡ true → isAmong (tableRow w) others ≡ true
-      among e = passes _ (simp other at (one-of (λ s. pick (isAmong s moves) true (isAmong s others)) (tableRow w) returning tt e))
+      in-others : isAmong (tableRow w) returning ≡ true → isAmong (tableRow w) others ≡ true
+      in-others e = passes _ (simp other at (one-of (λ s. pick (isAmong s moves) true (isAmong s others)) (tableRow w) returning tt e))

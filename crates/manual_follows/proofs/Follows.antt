@@ -7,10 +7,12 @@ use borrow.Author.Tests.{eqb-true}
 use lib.Dec.{eqb}
 use Rattle.word.specs.Field.{field}
 use Rattle.insn.specs.declared.Decoded.{Decoded}
+use Rattle.a32_coproc.specs.Coproc.{floatingOf}
 use Rattle.manual.specs.Stands.{Stands, StandsAt, inRange}
-use Rattle.manual.proofs.Fields.{Held, HeldAt, holds, group-26-2, low-4, low-7, by-field, split, no-true, _also_}
+use Rattle.manual.proofs.Fields.{Held, HeldAt, holds, group-26-2, low-4, low-7, by-field, split, _also_}
 use Rattle.manual.proofs.DpRegister.{by-count, by-register}
 use Rattle.manual_follows.proofs.DpImmediate.{by-constant}
+use Rattle.manual_follows.proofs.Coprocessor.{move-or-transfer, operation}
 use Rattle.manual.proofs.Control as C
 use Rattle.manual_follows.proofs.Extra.{extra-11, extra-13, extra-15}
 use Rattle.manual_follows.proofs.LoadStore.{by-displacement, by-index}
@@ -49,7 +51,7 @@ module _ (w addr : ℕ) where
     indexed : field w 25 3 ≡ 3 → HeldAt w addr
     indexed group = by-field w 4 1 (by-index w addr cond group also media w addr cond group also tt)
 
-    conditional : eqb (field w 26 2) 3 ≡ false → HeldAt w addr
+    conditional : (eqb (field w 26 2) 3 ≡ true → floatingOf w ≡ false) → HeldAt w addr
     conditional range =
         by-field w 25 3
         (register also
@@ -58,15 +60,15 @@ module _ (w addr : ℕ) where
         indexed also
         block w addr cond also
         branch w addr cond also
-        (λ g. absurd (no-true (simp (group-26-2, g) at range))) also
-        (λ g. absurd (no-true (simp (group-26-2, g) at range))) also
+        (λ g. move-or-transfer w addr cond (range (simp (group-26-2, g))) g) also
+        (λ g. operation w addr cond (range (simp (group-26-2, g))) g) also
         tt)
 
   held : inRange w ≡ true → HeldAt w addr
   held range =
       split (eqb (field w 28 4) 15)
       (λ c. unconditional w addr (eqb-true (field w 28 4) 15 c))
-      (λ c. conditional c (kept (eqb (field w 26 2) 3) (simp c at range)))
+      (λ c. conditional c (λ h. kept (floatingOf w) (simp (c, h) at range)))
     where
       kept : (b : Bool) → not b ≡ true → b ≡ false
       kept true e = sym e

@@ -6,5 +6,6 @@ pub mod Media
 pub mod Rows
 pub mod Targets
 pub mod Transfers
+pub mod Coprocessor
 pub mod Unconditional
 pub mod Follows

@@ -22,9 +22,6 @@ lead {n = n} e h = subst (λ (x : String). Numbered x n) (sym e) h
 pub msr-number : Numbered "MSR (immediate)" 110
 msr-number = unfold numberOf in record { number = refl; known = omega arith }
 
-pub coprocessor-number : Numbered "coprocessor instructions, and Supervisor Call" 232
-coprocessor-number = unfold numberOf in record { number = refl; known = omega arith }
-
 -- four bits that are not zero, by the one that is set
 abbrev isSome : ℕ → Bool
 isSome v = pick (eqb v 0) true (pick (eqb v 4) true (pick (eqb (v / 2 % 2) 1) true (pick (eqb (v / 1 % 2) 1) true (eqb (v / 8 % 2) 1))))
@@ -84,7 +81,7 @@ module _ (w : ℕ) where
         let b : field w 25 3 / 2 % 2 ≡ 0 = omega arith in
         simp (below-15, a, b, ne-eqb (field w 25 3) 2 (λ e. omega arith), ne-eqb (field w 25 3) 3 (λ e. omega arith))
 
-    pub to-coprocessor : 5 < field w 25 3 → A5.tableRow w ≡ "coprocessor instructions, and Supervisor Call"
+    pub to-coprocessor : 5 < field w 25 3 → A5.tableRow w ≡ A5.coprocessor w
     to-coprocessor l = unfold A5.tableRow in
         let a : field w 25 3 / 4 % 2 ≡ 1 = omega (arith, small w 25 3) in
         let b : field w 25 3 / 2 % 2 ≡ 1 = omega (arith, small w 25 3) in

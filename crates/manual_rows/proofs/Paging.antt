@@ -28,8 +28,8 @@ told-115 : (b : Bool) → eqb (pick b 115 46) 115 ≡ b
 told-115 true = refl
 told-115 false = refl
 
-pub returning-is : (n : ℕ) → n < 262 → eqb (getD (listed byteAt 0 262) n 0) 115 ≡ isAmong (titleAt n) returning
-returning-is n h = ap (λ (x : ℕ). eqb x 115) (at byteAt 262 0 n h ∙ ap byteAt (zero-add n)) ∙ told-115 (isAmong (titleAt n) returning)
+pub returning-is : (n : ℕ) → n < 271 → eqb (getD (listed byteAt 0 271) n 0) 115 ≡ isAmong (titleAt n) returning
+returning-is n h = ap (λ (x : ℕ). eqb x 115) (at byteAt 271 0 n h ∙ ap byteAt (zero-add n)) ∙ told-115 (isAmong (titleAt n) returning)
 
 -- a word from or to the stack
 module _ (w p u wb : ℕ) where
@@ -52,21 +52,21 @@ module _ (w p u wb : ℕ) where
   not-stack a = unfold oneWord in simp (ne-eqb _ _ a)
 
 -- the titles that a SEE leads from
-module _ (n : ℕ) (h : n < 262) where
+module _ (n : ℕ) (h : n < 271) where
   adr-is : eqt (titleAt n) "ADR" ≡ eqb n 45
-  adr-is = unfold titleAt in tests-alike (λ i. eqt (titleAt i) "ADR") (λ i. eqb i 45) 262 tt n h
+  adr-is = unfold titleAt in tests-alike (λ i. eqt (titleAt i) "ADR") (λ i. eqb i 45) 271 tt n h
 
   str-is : eqt (titleAt n) "STR (immediate, ARM)" ≡ eqb n 131
-  str-is = unfold titleAt in tests-alike (λ i. eqt (titleAt i) "STR (immediate, ARM)") (λ i. eqb i 131) 262 tt n h
+  str-is = unfold titleAt in tests-alike (λ i. eqt (titleAt i) "STR (immediate, ARM)") (λ i. eqb i 131) 271 tt n h
 
   ldr-is : eqt (titleAt n) "LDR (immediate, ARM)" ≡ eqb n 133
-  ldr-is = unfold titleAt in tests-alike (λ i. eqt (titleAt i) "LDR (immediate, ARM)") (λ i. eqb i 133) 262 tt n h
+  ldr-is = unfold titleAt in tests-alike (λ i. eqt (titleAt i) "LDR (immediate, ARM)") (λ i. eqb i 133) 271 tt n h
 
   pop-is : eqt (titleAt n) "POP" ≡ eqb n 221
-  pop-is = unfold titleAt in tests-alike (λ i. eqt (titleAt i) "POP") (λ i. eqb i 221) 262 tt n h
+  pop-is = unfold titleAt in tests-alike (λ i. eqt (titleAt i) "POP") (λ i. eqb i 221) 271 tt n h
 
   push-is : eqt (titleAt n) "PUSH" ≡ eqb n 223
-  push-is = unfold titleAt in tests-alike (λ i. eqt (titleAt i) "PUSH") (λ i. eqb i 223) 262 tt n h
+  push-is = unfold titleAt in tests-alike (λ i. eqt (titleAt i) "PUSH") (λ i. eqb i 223) 271 tt n h
 
 module _ (w : ℕ) where
   -- from ADR
@@ -80,13 +80,13 @@ module _ (w : ℕ) where
   adr-stays s = unfold otherPageOf numberOf in record { number = simp (ne-eqb _ _ s); known = omega arith }
 
   -- from the others
-  pub to-push-one : oneWord w 1 0 1 ≡ true → Numbered (otherPageOf (titleAt 131) w) 260
+  pub to-push-one : oneWord w 1 0 1 ≡ true → Numbered (otherPageOf (titleAt 131) w) 269
   to-push-one h = unfold otherPageOf numberOf titleAt in record { number = simp h; known = omega arith }
 
   pub str-stays : oneWord w 1 0 1 ≡ false → Numbered (otherPageOf (titleAt 131) w) 131
   str-stays h = unfold otherPageOf numberOf titleAt in record { number = simp h; known = omega arith }
 
-  pub to-pop-one : oneWord w 0 1 0 ≡ true → Numbered (otherPageOf (titleAt 133) w) 261
+  pub to-pop-one : oneWord w 0 1 0 ≡ true → Numbered (otherPageOf (titleAt 133) w) 270
   to-pop-one h = unfold otherPageOf numberOf titleAt in record { number = simp h; known = omega arith }
 
   pub ldr-stays : oneWord w 0 1 0 ≡ false → Numbered (otherPageOf (titleAt 133) w) 133
@@ -105,7 +105,7 @@ module _ (w : ℕ) where
   push-stays h = unfold otherPageOf numberOf titleAt in record { number = simp h; known = omega arith }
 
   -- a page that leads nowhere
-  pub others-stay : (n : ℕ) → n < 262 → (n ≡ 45 → ⊥) → (n ≡ 131 → ⊥) → (n ≡ 133 → ⊥) → (n ≡ 221 → ⊥) → (n ≡ 223 → ⊥)
+  pub others-stay : (n : ℕ) → n < 271 → (n ≡ 45 → ⊥) → (n ≡ 131 → ⊥) → (n ≡ 133 → ⊥) → (n ≡ 221 → ⊥) → (n ≡ 223 → ⊥)
       → Numbered (otherPageOf (titleAt n) w) n
   others-stay n h a b d e f = unfold otherPageOf in
       lead
@@ -125,7 +125,7 @@ module _ (w : ℕ) where
 
 -- the page of a row
 module _ (w n : ℕ) (row : Numbered (tableRow w) n) where
-  pub returns : isAmong (titleAt n) returning ≡ true → both (eqb (field w 12 4) 15) (isSet w 20) ≡ true → Numbered (rowOf w) 259
+  pub returns : isAmong (titleAt n) returning ≡ true → both (eqb (field w 12 4) 15) (isSet w 20) ≡ true → Numbered (rowOf w) 268
   returns a b = unfold rowOf pageOf numberOf in record { number = simp (simp (title-is row) at a, b); known = omega arith }
 
   -- else the row leads on as any other

@@ -26,13 +26,13 @@ found s (t ∷ ts) h = next s t ts (eqt s t) refl (found s ts) h
 -- a row is the title at its number
 pub title-is : {s : String} {n : ℕ} → Numbered s n → titleAt n ≡ s
 unfolding numberOf titleAt
-title-is {s = s} {n = n} h = ap (titleIn titles) (h .number) ∙ found s titles (subst (λ (k : ℕ). k < 262) (h .number) (h .known))
+title-is {s = s} {n = n} h = ap (titleIn titles) (h .number) ∙ found s titles (subst (λ (k : ℕ). k < 271) (h .number) (h .known))
 
 -- so rows with one number are one row
 pub told-apart : {s t : String} {n : ℕ} → Numbered s n → Numbered t n → s ≡ t
 told-apart h k = sym (title-is h) ∙ title-is k
 
 -- a title's number is its place
-pub numbered : (n : ℕ) → n < 262 → Numbered (titleAt n) n
+pub numbered : (n : ℕ) → n < 271 → Numbered (titleAt n) n
 unfolding numberOf titleAt
-numbered n h = record { number = eqb→eq n _ (at-each (λ i. eqb i (numberOf (titleAt i))) 262 tt n h); known = h }
+numbered n h = record { number = eqb→eq n _ (at-each (λ i. eqb i (numberOf (titleAt i))) 271 tt n h); known = h }

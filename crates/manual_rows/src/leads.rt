@@ -3,6 +3,7 @@ use manual_tables::barrier;
 use manual_tables::bit_fields;
 use manual_tables::branch_and_block;
 use manual_tables::columns::column;
+use manual_tables::coprocessor;
 use manual_tables::extra;
 use manual_tables::halfword_multiply;
 use manual_tables::hint;
@@ -31,9 +32,6 @@ ghost use Rattle.manual_tables.specs.Titles.{Numbered};
 /// "MSR (immediate)".
 const MSR_IMMEDIATE: u16 = 110;
 
-/// "coprocessor instructions, and Supervisor Call".
-const COPROCESSOR: u16 = 232;
-
 /// A5.1, table A5-1: cond 31:28, op1 27:25, op 4.
 pub fn table_row(w: u32) -> u16
     ensures { λ r. ⌜ Numbered (A5.tableRow w) r ⌝ }
@@ -59,7 +57,7 @@ pub fn table_row(w: u32) -> u16
     if op1 < 6 {
         return branch_and_block(w);
     }
-    COPROCESSOR
+    coprocessor(w)
 }
 
 /// A5.2, table A5-2: op 25, op1 24:20, op2 7:4.

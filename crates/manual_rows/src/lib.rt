@@ -9,7 +9,7 @@ use crate::pages::other_page;
 ghost use Rattle.manual.specs.A8.{rowOf};
 ghost use Rattle.manual_tables.specs.Titles.{Numbered};
 
-const SUBS_PC_LR: u16 = 259;
+const SUBS_PC_LR: u16 = 268;
 
 /// The number of the row of `w`, by the tables of chapter A5 and the pages of chapter A8.
 #[no_mangle]

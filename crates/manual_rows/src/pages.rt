@@ -27,21 +27,21 @@ const STMDB: u16 = 222;
 
 const PUSH: u16 = 223;
 
-const PUSH_ONE: u16 = 260;
+const PUSH_ONE: u16 = 269;
 
-const POP_ONE: u16 = 261;
+const POP_ONE: u16 = 270;
 
 /// An s for each title whose page has "SEE SUBS PC, LR and related instructions".
-const RETURNING: [u8; 262] = *b"\
+const RETURNING: [u8; 271] = *b"\
     ..ssssssss....sssssssss...................sssssssss....ssss.....\
     ................................................................\
     ................................................................\
     ................................................................\
-    ......";
+    ...............";
 
 /// Whether the title numbered `n` is one of these.
 pub fn is_returning(n: u16) -> bool
-    requires { ⌜ n < 262 ⌝ }
+    requires { ⌜ n < 271 ⌝ }
     ensures { λ r. ⌜ r ≡ isAmong (titleAt n) returning ⌝ }
 {
     RETURNING[n as usize] == b's'
@@ -58,7 +58,7 @@ pub fn is_return(w: u32) -> bool
 
 /// The page of a word whose row is the title numbered `n`, but for that "SEE".
 pub fn other_page(w: u32, n: u16) -> u16
-    requires { ⌜ n < 262 ⌝ }
+    requires { ⌜ n < 271 ⌝ }
     ensures { λ r. ⌜ Numbered (otherPageOf (titleAt n) w) r ⌝ }
 {
     if n == ADR {

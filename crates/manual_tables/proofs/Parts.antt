@@ -3,10 +3,12 @@ use mathlib.Core.Path.{_≡_, refl, sym, _∙_, subst}
 use mathlib.Core.Bool.{Bool, true, false}
 use Prim.Native.Nat.{ℕ, _+_, _*_, _/_, _%_, _^_}
 use Prim.Native.String.{String}
-use lib.Dec.{leb}
+use lib.Dec.{eqb, leb}
 use Rattle.word.specs.Choice.{pick, both}
-use Rattle.word.specs.Field.{field, splits, within}
+use Rattle.word.specs.Field.{field, small, splits, within}
+use Rattle.manual.specs.Pattern.{like}
 use Rattle.manual_tables.specs.Titles.{Numbered}
+use Rattle.manual_tables.proofs.Place.{tests-alike}
 
 part : (w lo k lo' k' : ℕ) → leb (lo' + k') k ≡ true → field w lo k / 2 ^ lo' % 2 ^ k' ≡ field w (lo + lo') k'
 part w lo k lo' k' h = unfold field in within w lo k lo' k' h
@@ -29,6 +31,11 @@ module _ (w : ℕ) where
 
   pub media-op1 : field w 20 5 ≡ field w 23 2 * 8 + field w 20 3
   media-op1 = splits w 20 2 3
+
+  -- "101x" of coproc is a test of its upper three bits
+  pub coproc-101x : like (field w 8 4) "101x" ≡ eqb (field w 9 3) 5
+  coproc-101x =
+      tests-alike (λ v. like v "101x") (λ v. eqb (v / 2 % 8) 5) 16 tt (field w 8 4) (small w 8 4) ∙ simp (part w 8 4 1 3 refl)
 
   pub unconditional-op1 : field w 20 8 ≡ field w 27 1 * 128 + field w 20 7
   unconditional-op1 = splits w 20 1 7

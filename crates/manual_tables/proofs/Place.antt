@@ -166,7 +166,7 @@ abbrev reads : (ℕ → String) → ℕ → List Column → ℕ → ℕ → Bool
 reads F base cs first i = eqb (entryOf first (byteAt F base cs first i)) (numberAt F base cs i)
 
 abbrev knows : (ℕ → String) → ℕ → List Column → ℕ → Bool
-knows F base cs i = ltb (numberAt F base cs i) 262
+knows F base cs i = ltb (numberAt F base cs i) 271
 
 abbrev pub isRight : (ℕ → String) → (ℕ → Bool) → ℕ → List Column → ℕ → ℕ → Bool
 isRight F asked base cs first i = both (homes base cs i) (both (asked (wordFrom base cs i)) (both (reads F base cs first i) (knows F base cs i)))
@@ -213,7 +213,7 @@ module _ (F : ℕ → String) (asked : ℕ → Bool) (base : ℕ) (cs : List Col
   there =
       record {
         number = entry ∙ row-there;
-        known = subst (λ (x : ℕ). x < 262) (sym entry) (ltb→lt _ _ (right (reads F base cs first i) (knows F base cs i) read));
+        known = subst (λ (x : ℕ). x < 271) (sym entry) (ltb→lt _ _ (right (reads F base cs first i) (knows F base cs i) read));
       }
 
   pub looked-where : {n r : ℕ} → n ≡ i → r ≡ entryOf first (getD (tabled F base cs first) n 0) → Numbered (F w) r

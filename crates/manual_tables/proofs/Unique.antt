@@ -22,6 +22,7 @@ use Rattle.manual_tables.proofs.parallel_unsigned.Reads as parallel-uns
 use Rattle.manual_tables.proofs.packing.Reads as packing
 use Rattle.manual_tables.proofs.signed_multiply.Reads as signed-multiply
 use Rattle.manual_tables.proofs.branch_and_block.Reads as branch-and-block
+use Rattle.manual_tables.proofs.coprocessor.Reads as coprocessor
 use Rattle.manual_tables.proofs.immediate.Reads as immediate
 use Rattle.manual_tables.proofs.hint.Reads as hint
 use Rattle.manual_tables.proofs.bit_fields.Reads as bit-fields
@@ -84,6 +85,9 @@ signed-multiply-only κs a r r′ s s′ p q = one-number p q
 
 pub branch-and-block-only : Only branch-and-block.Post
 branch-and-block-only κs a r r′ s s′ p q = one-number p q
+
+pub coprocessor-only : Only coprocessor.Post
+coprocessor-only κs a r r′ s s′ p q = one-number p q
 
 pub immediate-only : Only immediate.Post
 immediate-only κs a r r′ s s′ p q = one-number p q

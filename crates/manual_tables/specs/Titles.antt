@@ -69,15 +69,15 @@ titles =
     -- table A5-21
     "STMDA" ∷ "LDMDA" ∷ "STM" ∷ "LDM" ∷ "POP" ∷ "STMDB" ∷ "PUSH" ∷ "LDMDB" ∷ "STMIB" ∷ "LDMIB" ∷ "STM (User registers)" ∷
     "LDM (User registers)" ∷ "LDM (exception return)" ∷ "B" ∷ "BL" ∷
-    -- table A5-1
-    "coprocessor instructions, and Supervisor Call" ∷
+    -- table A5-22
+    "SVC" ∷ "STC" ∷ "LDC (immediate)" ∷ "LDC (literal)" ∷ "MCRR" ∷ "MRRC" ∷ "CDP" ∷ "MCR" ∷ "MRC" ∷ "Advanced SIMD, Floating-point" ∷
     -- table A5-24
     "CPS" ∷ "SETEND" ∷ "Advanced SIMD data-processing" ∷ "Advanced SIMD load/store" ∷ "unallocated memory hint" ∷
     "PLI (immediate, literal)" ∷ "PLDW (immediate)" ∷ "PLD (immediate)" ∷ "PLD (literal)" ∷ "CLREX" ∷ "DSB" ∷ "DMB" ∷ "ISB" ∷
     "PLI (register)" ∷ "PLDW (register)" ∷ "PLD (register)" ∷
     -- table A5-23
-    "SRS" ∷ "RFE" ∷ "BLX (immediate)" ∷ "LDC, LDC2" ∷ "STC, STC2" ∷ "MCRR, MCRR2" ∷ "MRRC, MRRC2" ∷ "CDP, CDP2" ∷ "MCR, MCR2" ∷
-    "MRC, MRC2" ∷
+    "SRS" ∷ "RFE" ∷ "BLX (immediate)" ∷ "LDC2" ∷ "STC2" ∷ "MCRR2" ∷ "MRRC2" ∷ "CDP2" ∷ "MCR2" ∷
+    "MRC2" ∷
     -- the pages that only a SEE leads to
     "SUBS PC, LR and related instructions" ∷ "PUSH, one register" ∷ "POP, one register" ∷
     []
@@ -97,7 +97,7 @@ titleAt n = titleIn titles n
 -- a row's number; each row that a word can have is in the list
 pub record Numbered (row : String) (n : ℕ) : Type 0 where
   pub number : n ≡ numberOf row
-  pub known : n < 262
+  pub known : n < 271
 
 -- an entry of a table's array: a letter is a title, the number `first` for an a, and so on; a dot is UNDEFINED, and ? UNPREDICTABLE
 abbrev pub entryOf : ℕ → ℕ → ℕ

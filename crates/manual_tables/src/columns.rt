@@ -25,7 +25,7 @@ pub fn is(w: u32, hi: u32, lo: u32, v: u32) -> u32
 
 /// The number that an entry stands for, in a table whose titles begin with number `first`.
 pub fn title(first: u16, entry: u8) -> u16
-    requires { ⌜ first < 262 ⌝ }
+    requires { ⌜ first < 271 ⌝ }
     ensures { λ r. ⌜ r ≡ entryOf first entry ⌝ }
 {
     if entry < b'a' {

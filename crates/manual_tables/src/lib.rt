@@ -188,6 +188,25 @@ pub fn branch_and_block(w: u32) -> u16
     title(217, BRANCH_AND_BLOCK[place as usize])
 }
 
+/// A5.6, table A5-22: op1 25:20, op 4, whether coproc is 101x, and whether Rn is 15.
+const COPROCESSOR: [u8; 512] = *b"\
+    ................bbjjbbjjcdjjcdjjeejjeejjffjjffjjbbjjbbjjcdjjcdjj\
+    bbjjbbjjcdjjcdjjbbjjbbjjcdjjcdjjbbjjbbjjcdjjcdjjbbjjbbjjcdjjcdjj\
+    bbjjbbjjcdjjcdjjbbjjbbjjcdjjcdjjbbjjbbjjcdjjcdjjbbjjbbjjcdjjcdjj\
+    bbjjbbjjcdjjcdjjbbjjbbjjcdjjcdjjbbjjbbjjcdjjcdjjbbjjbbjjcdjjcdjj\
+    ggjjhhjjggjjiijjggjjhhjjggjjiijjggjjhhjjggjjiijjggjjhhjjggjjiijj\
+    ggjjhhjjggjjiijjggjjhhjjggjjiijjggjjhhjjggjjiijjggjjhhjjggjjiijj\
+    aaaaaaaaaaaaaaaaaaaaaaaaaaaaaaaaaaaaaaaaaaaaaaaaaaaaaaaaaaaaaaaa\
+    aaaaaaaaaaaaaaaaaaaaaaaaaaaaaaaaaaaaaaaaaaaaaaaaaaaaaaaaaaaaaaaa";
+
+pub fn coprocessor(w: u32) -> u16
+    ensures { λ r. ⌜ Numbered (A5.coprocessor w) r ⌝ }
+{
+    let place = ((column(w, 25, 20) * 2 + column(w, 4, 4)) * 2 + is(w, 11, 9, 5)) * 2
+        + is(w, 19, 16, 15);
+    title(232, COPROCESSOR[place as usize])
+}
+
 /// A5.2.3 and A5.2, tables A5-5 and A5-2, where op is 1 and op1 is not 10x10: op1 24:20, and whether Rn is 15.
 const IMMEDIATE: [u8; 64] = *b"\
     aaaabbbbcdcdeeeefdfdgggghhhhiiiirrjj..kkssll..mmnnnnooooppppqqqq";
@@ -243,7 +262,7 @@ pub fn unconditional_upper(w: u32) -> u16
     ensures { λ r. ⌜ Numbered (A5.unconditional w) r ⌝ }
 {
     let place = column(w, 26, 20) * 2 + column(w, 4, 4);
-    title(249, UNCONDITIONAL_UPPER[place as usize])
+    title(258, UNCONDITIONAL_UPPER[place as usize])
 }
 
 /// A5.7.1, table A5-24, where op1 is 0010000: op2 7:4, and the last bit of Rn.
@@ -255,7 +274,7 @@ pub fn state(w: u32) -> u16
     ensures { λ r. ⌜ Numbered (A5.hintsAndSimd w) r ⌝ }
 {
     let place = column(w, 7, 4) * 2 + column(w, 16, 16);
-    title(233, STATE[place as usize])
+    title(242, STATE[place as usize])
 }
 
 /// The same where op1 is 1010111: op2 7:4.
@@ -267,7 +286,7 @@ pub fn barrier(w: u32) -> u16
     ensures { λ r. ⌜ Numbered (A5.hintsAndSimd w) r ⌝ }
 {
     let place = column(w, 7, 4);
-    title(233, BARRIER[place as usize])
+    title(242, BARRIER[place as usize])
 }
 
 /// The same where it is neither: op1 26:20, the last bit of op2, and whether Rn is 15.
@@ -286,5 +305,5 @@ pub fn preload(w: u32) -> u16
     ensures { λ r. ⌜ Numbered (A5.hintsAndSimd w) r ⌝ }
 {
     let place = (column(w, 26, 20) * 2 + column(w, 4, 4)) * 2 + is(w, 19, 16, 15);
-    title(233, PRELOAD[place as usize])
+    title(242, PRELOAD[place as usize])
 }

@@ -43,6 +43,7 @@ use Rattle.promises_predicated.specs.Predicated.{under}
 use Rattle.manual.specs.A5.{tableRow}
 use Rattle.manual.specs.A8.{rowOf as pageOf}
 use Rattle.manual.specs.ShouldBe.{asDrawn}
+use Rattle.manual_drawn.specs.HomeReads.{SaidAs, homely, saidAt}
 use Rattle.manual.specs.Stands.{Stands, inRange}
 use Rattle.manual_drawn.specs.Exceptions.{excepted}
 use Rattle.insn_row.specs.Row.{rowOf}
@@ -79,6 +80,7 @@ use Rattle.section_convert.proofs.Converts as Conversion
 use Rattle.walk.proofs.Kept as Walking
 use Rattle.manual_follows.proofs.Follows as Follows
 use Rattle.manual_drawn.proofs.Drawn as Drawn
+use Rattle.manual_drawn.proofs.Homes as Homes
 use Rattle.promises_differ.proofs.Alike as Differ
 use Rattle.promises_predicated.proofs.ReadOnce as ReadOnce
 use Rattle.line_spelling.proofs.Fits as Fits
@@ -255,7 +257,7 @@ module _ (κ κ′ : Lft) where
       → Decodes (wordAt (now bytes) 0) addr d
   enough-bytes bytes addr d is four = is ∙ simp (le-ltb _ _ four)
 
-  -- A word with a condition below 15 and 27:26 = 11 is refused with 2, and any other that is not accepted with 3.
+  -- A word with a condition below 15, 27:26 = 11 and 11:8 of 10 or 11 is refused with 2, and any other that is not accepted with 3.
   pub out-of-scope : (w addr : ℕ) (d : Decoded) → Decodes w addr d → inRange w ≡ false → d ≡ refused 2
   out-of-scope w addr d is out = is ∙ Refusals.refused-out w addr out
 
@@ -314,8 +316,8 @@ module _ (κ κ′ : Lft) where
   pub as-written : (w addr : ℕ) (d : Decoded) → Decodes w addr d → d ≡ decodeOf w addr
   as-written w addr d is = is
 
-  -- On every word with condition 15, or with 27:26 other than 11, at every address, the answer is what the definition from the manual says, or a
-  -- departure covers the word and tells the answer.
+  -- On every word but those with a condition below 15, 27:26 = 11 and 11:8 of 10 or 11, at every address, the answer is what the definition from the
+  -- manual says, or a departure covers the word and tells the answer.
   pub follows-the-manual : (w addr : ℕ) (d : Decoded) → Decodes w addr d → inRange w ≡ true → Stands (tableRow w) w addr d
   follows-the-manual w addr d is range = rw is (Follows.follows-the-manual w addr range)
 
@@ -360,6 +362,12 @@ module _ (κ κ′ : Lft) where
   pub as-drawn : (w addr : ℕ) (d : Decoded) (h : Encoded) → Decodes w addr d → Accepts d → HasHome Manual w h
       → asDrawn (pageOf w) (h .word) ≡ not (excepted w)
   as-drawn w addr d h is ok has = rw (home-word Manual w addr d h is has .0 ok) (Drawn.home-as-drawn w addr (rw (← is) ok))
+
+  -- And it does the same work: what the manual says of a word it says of its home word, but for the mark of minus zero, which is lost there, and for
+  -- the unindexed form of a coprocessor's load or store, whose home word writes the base back.
+  pub same-work : (c : Filler) (w addr : ℕ) (d : Decoded) (h : Encoded) → w < 2 ^ 32 → Decodes w addr d → Accepts d → HasHome c w h
+      → SaidAs (homely w) (saidAt w addr) (saidAt (h .word) addr)
+  same-work c w addr d h bound is ok has = rw (home-word c w addr d h is has .0 ok) (Homes.home-reads c w addr bound (rw (← is) ok))
 
   pub home-word-for-c : (c : Filler) (w p : ℕ) (h : Encoded) → HasHome c w h → HasHomeForC c w p → p ≡ packed (h .refusal) (h .word)
   home-word-for-c Manual w p h has is = rw has is

@@ -9,6 +9,7 @@ use Rattle.word.specs.Field.{field}
 use Rattle.insn.specs.Answer.{accepted, refused}
 use Rattle.insn.specs.declared.Decoded.{Decoded}
 use Rattle.insn.specs.declared.Insn.{Insn}
+use Rattle.a32_coproc.specs.Coproc.{floatingOf}
 use Rattle.a32.specs.Decode.{decodeOf}
 use Rattle.a32.proofs.Groups.{Group, unconditional, coprocessor, misc, halfword, dp-reg, multiply, sync, extra-ldst, dp-imm, ldst, ldst-index, media}
 use Rattle.a32.proofs.Groups.{block, branch, reaches, by-group}
@@ -42,7 +43,10 @@ module _ (w addr : ℕ) where
       (λ e. absurd (true≢false (simp e at out)))
       (λ c.
       by-test (eqb (field w 26 2) 3)
-      (λ p. reaches w (coprocessor c (eqb-true (field w 26 2) 3 p)) addr)
+      (λ p.
+      by-test (floatingOf w)
+      (λ f. reaches w (coprocessor c (eqb-true (field w 26 2) 3 p)) addr ∙ simp f)
+      (λ f. absurd (true≢false (simp (c, p, f) at out))))
       (λ p. absurd (true≢false (simp (c, p) at out))))
 
   pub refused-within : inRange w ≡ true → (decodeOf w addr .refusal ≡ 0 → ⊥) → decodeOf w addr ≡ refused 3
@@ -54,7 +58,6 @@ module _ (w addr : ℕ) where
     where
       three : {row : ℕ → ℕ → Decoded} → Group w row → no-other (row w addr) ≡ true
       three (unconditional c) = simp laws
-      three (coprocessor c p) = absurd (true≢false (sym (simp (c, p) at range)))
       three (misc c g is seven) = simp laws
       three (halfword c g is seven four) = simp laws
       three (dp-reg c g is seven) = simp laws
@@ -67,3 +70,4 @@ module _ (w addr : ℕ) where
       three (media c g four) = simp laws
       three (block c g) = simp laws
       three (branch c g) = simp laws
+      three (coprocessor c p) = by-test (floatingOf w) (λ f. absurd (true≢false (sym (simp (c, p, f) at range)))) (λ f. simp (laws, f))

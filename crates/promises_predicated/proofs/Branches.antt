@@ -46,7 +46,6 @@ branches-are-b w addr = by-group w (λ row. onlyB (row addr) ≡ true) (λ row. 
   where
     only : {row : ℕ → ℕ → Decoded} → Group w row → onlyB (row w addr) ≡ true
     only (unconditional c) = simp laws
-    only (coprocessor c p) = simp laws
     only (misc c g is seven) = simp laws
     only (halfword c g is seven four) = simp laws
     only (dp-reg c g is seven) = simp laws
@@ -59,3 +58,4 @@ branches-are-b w addr = by-group w (λ row. onlyB (row addr) ≡ true) (λ row. 
     only (media c g four) = simp laws
     only (block c g) = simp laws
     only (branch c g) = simp laws
+    only (coprocessor c p) = simp laws

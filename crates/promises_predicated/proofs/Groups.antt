@@ -21,6 +21,7 @@ use Rattle.a32_ldst.specs.Ldst.{refusedIndexOf, markedOf, ldstOf}
 use Rattle.a32_media.specs.Media.{mediaOf}
 use Rattle.a32_transfer.specs.Block.{stackOf, blockOf}
 use Rattle.a32_transfer.specs.Branch.{targetFrom, branchOf}
+use Rattle.a32_coproc.specs.Coproc.{floatingOf, coprocOf}
 use Rattle.promises_predicated.specs.Predicated.{under}
 use Rattle.promises_predicated.proofs.Laws.{laws}
 
@@ -58,6 +59,9 @@ module _ (w v addr : ℕ) (alike : Alike w v) where
 
   pub block : Once blockOf
   block = unfold stackOf in simp (laws, fields-alike w v alike)
+
+  pub coproc : Once coprocOf
+  coproc = unfold floatingOf in simp (laws, fields-alike w v alike)
 
   -- the one that reads it: an unlinked b
   pub branch : Once branchOf

@@ -17,7 +17,7 @@ use Rattle.encode_home.specs.Home.{putsOf, homeBy, homeOf}
 use Rattle.encode_home.proofs.Puts.{all-good, putAll-alike}
 use Rattle.line_spelling.specs.Line.{nameText, insnText, answerText}
 use Rattle.promises_predicated.specs.Predicated.{flowAt, under, textUnder}
-use Rattle.promises_predicated.proofs.Laws.{coprocessor-under, refusal-under, name-under, operands-under, flow-under, home-under}
+use Rattle.promises_predicated.proofs.Laws.{refusal-under, name-under, operands-under, flow-under, home-under}
 use Rattle.promises_predicated.proofs.Groups as G
 
 -- the text of an answer under a condition
@@ -35,7 +35,6 @@ module _ (w v addr : ℕ) (alike : Alike w v) (c : Below w) (c′ : Below v) whe
   -- so v is in the group of w
   beside : {row : ℕ → ℕ → Decoded} → Group w row → Group v row
   beside (unconditional e) = absurd (eqb-false (field w 28 4) 15 c e)
-  beside (coprocessor _ p) = coprocessor c′ (still 26 2 refl p)
   beside (misc _ g is seven) = misc c′ (still 25 3 refl g) (control is) (still 7 1 refl seven)
   beside (halfword _ g is seven four) = halfword c′ (still 25 3 refl g) (control is) (still 7 1 refl seven) (still 4 1 refl four)
   beside (dp-reg _ g is seven) = dp-reg c′ (still 25 3 refl g) (control is) (λ set. still 7 1 refl (seven (fields-alike w v alike 4 1 refl ∙ set)))
@@ -51,11 +50,11 @@ module _ (w v addr : ℕ) (alike : Alike w v) (c : Below w) (c′ : Below v) whe
   beside (media _ g four) = media c′ (still 25 3 refl g) (still 4 1 refl four)
   beside (block _ g) = block c′ (still 25 3 refl g)
   beside (branch _ g) = branch c′ (still 25 3 refl g)
+  beside (coprocessor _ p) = coprocessor c′ (still 26 2 refl p)
 
   -- and the group answers v as w, under v's condition
   once : {row : ℕ → ℕ → Decoded} → Group w row → row v addr ≡ under (field v 28 4) (row w addr)
   once (unconditional e) = absurd (eqb-false (field w 28 4) 15 c e)
-  once (coprocessor _ p) = sym (coprocessor-under (field v 28 4))
   once (misc _ g is seven) = G.misc w v addr alike
   once (halfword _ g is seven four) = G.halfword w v addr alike
   once (dp-reg _ g is seven) = G.dp-reg w v addr alike
@@ -68,6 +67,7 @@ module _ (w v addr : ℕ) (alike : Alike w v) (c : Below w) (c′ : Below v) whe
   once (media _ g four) = G.media w v addr alike
   once (block _ g) = G.block w v addr alike
   once (branch _ g) = G.branch w v addr alike
+  once (coprocessor _ p) = G.coproc w v addr alike
 
   pub read-once : decodeOf v addr ≡ under (field v 28 4) (decodeOf w addr)
   read-once = of (found w .1)

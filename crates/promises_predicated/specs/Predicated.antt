@@ -11,7 +11,7 @@ use Rattle.insn.specs.declared.Flow.{Flow}
 use Rattle.insn.specs.declared.Flow.the-variants.{Next, Branch, CondBranch, IndirectBranch, Call, IndirectCall, Return, Trap}
 use Rattle.text.specs.Text.{bytes}
 use Rattle.line_spelling.specs.Names.{suffixes, entry}
-use Rattle.line_spelling.specs.Line.{placesText, flowText, refusedText}
+use Rattle.line_spelling.specs.Line.{stemOf, tailOf, placesText, flowText, refusedText}
 
 -- "operands, root and flow are equal, save that an unlinked b is branch at 14 and conditional branch otherwise": no other name has either
 -- flow, which is `branches-are-b`
@@ -50,5 +50,6 @@ under c d =
 abbrev pub textUnder : ℕ → Decoded → List ℕ
 textUnder c d =
     pick (eqb (d .refusal) 0)
-    (entry roots (d .insn .name) ++ entry suffixes c ++ placesText (d .insn .ops) ++ bytes " " ++ flowText (flowAt c (d .insn .flow)))
+    (entry roots (stemOf (d .insn .name)) ++ entry suffixes c ++ tailOf (d .insn .name)
+    ++ placesText (d .insn .ops) ++ bytes " " ++ flowText (flowAt c (d .insn .flow)))
     (refusedText (d .refusal))

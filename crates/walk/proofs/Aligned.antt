@@ -33,8 +33,8 @@ flow-through : (t : Bool) (x y : Flow) → flowTarget (pick t x y) ≡ pick t (f
 flow-through true x y = refl
 flow-through false x y = refl
 
-no-row : targetOf (refused 3) ≡ 0
-no-row = unfold targetOf in refl
+of-refused : (n : ℕ) → targetOf (refused n) ≡ 0
+of-refused n = unfold targetOf in refl
 
 of-accepted : (i : Insn) → targetOf (accepted i) ≡ flowTarget (i .flow)
 of-accepted i = unfold targetOf in refl
@@ -43,7 +43,7 @@ both-zero : (t : Bool) → pick {A = ℕ} t 0 0 ≡ 0
 both-zero true = refl
 both-zero false = refl
 
-ruleset laws = (through, flow-through, no-row, of-accepted, both-zero)
+ruleset laws = (through, flow-through, of-refused, of-accepted, both-zero)
 
 module _ (w a : ℕ) where
   -- words other than branches have none
@@ -52,7 +52,6 @@ module _ (w a : ℕ) where
     where
       none : {row : ℕ → ℕ → Decoded} → Group w row → targetOf (row w a) ≡ 0
       none (unconditional c) = simp (laws, other)
-      none (coprocessor c p) = unfold targetOf in refl
       none (misc c g is seven) = simp laws
       none (halfword c g is seven four) = simp laws
       none (dp-reg c g is seven) = simp laws
@@ -65,6 +64,7 @@ module _ (w a : ℕ) where
       none (media c g four) = simp laws
       none (block c g) = simp laws
       none (branch c g) = absurd (eqb-false (field w 25 3) 5 other g)
+      none (coprocessor c p) = simp laws
 
 -- a branch's target is as far from a multiple of 4 as its address
 from-aligned : (w a : ℕ) → a % 4 ≡ 0 → targetFrom w a 0 % 4 ≡ 0

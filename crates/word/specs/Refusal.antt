@@ -5,7 +5,7 @@ use Prim.Native.Nat.{ℕ}
 abbrev pub SHORT : ℕ
 SHORT = 1
 
--- "condition below 15 and bits 27:26 = 11"
+-- 02, P9: "condition below 15, 27:26 = 11 and 11:8 of 10 or 11"
 abbrev pub COPROCESSOR : ℕ
 COPROCESSOR = 2
 

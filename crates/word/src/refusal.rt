@@ -3,7 +3,7 @@
 /// Decoding bytes, fewer than 4.
 pub const SHORT: u8 = 1;
 
-/// Condition below 15 and bits 27:26 = 11.
+/// Condition below 15, bits 27:26 = 11 and 11:8 of 10 or 11.
 pub const COPROCESSOR: u8 = 2;
 
 /// Any other word no row accepts.

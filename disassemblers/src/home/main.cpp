@@ -75,7 +75,7 @@ int main(int argc, char **argv) {
         if (!disassembler)
             counts[{ofHome(title, w, home), title, ""}].add(w);
         else if (home == w) {
-            const string theirs = titleOf(disassembler->text(w));
+            const string theirs = titleOf(disassembler->text(w), w);
             counts[{ofNamed(who, title, w, theirs, disassembler->marked()), title, theirs}].add(w);
         }
     }

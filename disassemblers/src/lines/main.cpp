@@ -3,6 +3,7 @@
 // line here and their text. It fails if a difference has no class.
 #include "../disassembler.h"
 #include "brassdozen.h"
+#include <algorithm>
 #include <cstdio>
 #include <cstdlib>
 #include <map>
@@ -76,9 +77,39 @@ string operands(const string &o) {
     return end == string::npos ? operand(o) : operand(o.substr(0, end)) + " " + operands(o.substr(end + 2));
 }
 
-Reading theirs(const string &text) {
+// condition below 15, 27:26 = 11
+bool isCoprocessor(uint32_t w) { return w >> 28 < 15 && (w >> 26 & 3) == 3; }
+
+bool isNumber(const string &o) { return o.find_first_not_of("0123456789") == string::npos; }
+
+// an operand of a coprocessor instruction; binutils has "15", "cr7" and "{3}" where LLVM has "p15", "c7" and "#3"
+string coprocessorOperand(const string &o, bool first) {
+    if (isNumber(o)) return (first ? "p" : "#") + o;
+    if (o.compare(0, 2, "cr") == 0) return "c" + o.substr(2);
+    if (o[0] == '{') return "#" + o.substr(1, o.size() - 2);
+    return coreRegister(o);
+}
+
+// "[r1, #-16]!" as "[r1:-:-16:b:4]", "[r1], #4" as "[r1:-:4:a:4]", and the unindexed "[r1], {4}" as "[r1:{4}]"
+string transferAddress(const string &a) {
+    const size_t end = a.find(']'), offset = a.find(", #"), bare = a.find(", {");
+    const string base = "[" + coreRegister(a.substr(1, std::min(end, offset) - 1)) + ":";
+    if (bare != string::npos) return base + a.substr(bare + 2) + "]";
+    const bool after = offset != string::npos && offset > end;
+    const string by = offset == string::npos ? "0" : a.substr(offset + 3, after ? string::npos : end - offset - 3);
+    return base + "-:" + by + (after ? ":a:4]" : a.back() == '!' ? ":b:4]" : ":o:4]");
+}
+
+string coprocessorOperands(const string &o, bool first = true) {
+    if (o[0] == '[') return transferAddress(o);
+    const size_t end = o.find(", ");
+    if (end == string::npos) return coprocessorOperand(o, first);
+    return coprocessorOperand(o.substr(0, end), first) + " " + coprocessorOperands(o.substr(end + 2), false);
+}
+
+Reading theirs(uint32_t w, const string &text) {
     const Reading r = split(text.substr(0, text.find_first_of("@;")));
-    return {r.name, operands(r.operands)};
+    return {r.name, isCoprocessor(w) ? coprocessorOperands(r.operands) : operands(r.operands)};
 }
 
 // 3:0 of a barrier, by the name of its option or as a number; -1 if it is neither
@@ -109,6 +140,42 @@ string zeroFor32(const string &operands) {
     return by == string::npos ? operands : operands.substr(0, by) + " asr,0";
 }
 
+// the operands with the mode that a displacement of 0 has where nothing is written back
+string notWritten(string operands) {
+    if (operands.find(":0:") != string::npos || operands.find(":-0:") != string::npos) operands[operands.size() - 4] = 'o';
+    return operands;
+}
+
+// the operands with the flags for the register 15 that they go to
+string toFlags(string operands, const char *flags) {
+    const size_t pc = operands.find(" pc ");
+    return pc == string::npos ? operands : operands.replace(pc + 1, 2, flags);
+}
+
+bool isTransfer(const string &name) { return name == "ldc" || name == "ldcl" || name == "stc" || name == "stcl"; }
+
+// a name that the manual has for any coprocessor
+bool isGeneric(const string &name) { return isTransfer(name) || name == "mrc" || name == "mcr" || name == "cdp" || name == "mrrc" || name == "mcrr"; }
+
+// the class of a word of a coprocessor or of a supervisor call on which the two differ
+string coprocessorClass(uint32_t w, const Reading &here, const Reading &there) {
+    const uint32_t coprocessor = w >> 8 & 15;
+    const bool same = here.name == there.name, transfer = isTransfer(here.name);
+    if (here.name.empty() && (w >> 24 & 15) == 15) return "refused here: a supervisor call";
+    if (here.name.empty() && (coprocessor == 10 || coprocessor == 11)) return "refused here: coprocessor 10 or 11";
+    if (here.name.empty() && (w >> 21 & 31) == 0) return "they name what is UNDEFINED";
+    if (same && transfer && !(w >> 24 & 1) && !(w >> 21 & 1) && there.operands.find(":{") != string::npos) return "unindexed, which the line has as post";
+    if (same && transfer && signedZero(here.operands, w) == there.operands) return "minus zero, which they tell from zero";
+    if (same && transfer && notWritten(here.operands) == there.operands) return "written back by 0, which they do not show";
+    if (same && transfer && notWritten(signedZero(here.operands, w)) == there.operands) return "minus zero, whose write-back they do not show";
+    if (same && (toFlags(here.operands, "APSR_nzcv") == there.operands || toFlags(here.operands, "apsr_nzcv") == there.operands))
+        return "to the flags, where the line has pc";
+    if (!here.name.empty() && coprocessor == 9 && (there.name.empty() || there.name[0] == 'v')) return "ARMv8 and later: coprocessor 9 has half precision";
+    if (!here.name.empty() && there.name[0] == 'v') return "ARMv8-M: " + there.name;
+    if (!here.name.empty() && !there.name.empty() && !isGeneric(there.name)) return "they name what one coprocessor makes of it";
+    return "?";
+}
+
 bool isProduct(const string &name) { return name.compare(0, 4, "smul") == 0; }
 
 // whether a bit of the word is not as its page draws it in parentheses
@@ -118,6 +185,7 @@ bool strayBits(uint32_t w, const string &name) { return (name == "clrex" && (w &
 string classOf(uint32_t w, const Reading &here, const Reading &there, bool marked) {
     if (here.name.empty() && there.name.empty()) return "both have no instruction";
     if (here.name == there.name && here.operands == there.operands) return marked ? "agree, and they mark it as unpredictable" : "agree";
+    if (isCoprocessor(w)) return coprocessorClass(w, here, there);
     if (here.name == there.name && isBarrier(here.name) && option(here.operands) == int(w & 15) && option(there.operands) == int(w & 15))
         return "the same option, spelled otherwise";
     if (here.name == there.name && signedZero(here.operands, w) == there.operands) return "minus zero, which they tell from zero";
@@ -148,7 +216,7 @@ int main(int argc, char **argv) {
     do {
         const uint32_t w = value | bits;
         const string here = line(w), there = disassembler->text(w);
-        Count &c = classes[classOf(w, ours(here), theirs(there), disassembler->marked())];
+        Count &c = classes[classOf(w, ours(here), theirs(w, there), disassembler->marked())];
         if (!c.words++) c = {1, w, here, oneLine(there)};
         // the next larger number of bits in `any` alone, and 0 after the last
         bits = (bits - any) & any;

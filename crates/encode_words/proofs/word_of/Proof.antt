@@ -5,7 +5,7 @@ use native.Mathlib.Nat.{le-refl}
 use native.Mathlib.Omega.{arith}
 use Rattle.encode_words.proofs.Named.{between, named-address, named-dp, named-status, named-extra, named-wide, named-ldst, named-media}
 use Rattle.encode_words.proofs.Named.{named-block}
-use Rattle.encode_words.proofs.Named.{named-preload, named-barrier, named-halfword}
+use Rattle.encode_words.proofs.Named.{named-preload, named-barrier, named-halfword, named-coproc}
 use Rattle.encode_dp.proofs.Chosen.{by}
 use Rattle.encode_words.proofs.word_of as f
 
@@ -72,15 +72,24 @@ returns-10 c =
 returns-11 : f.Tie.Need-returns-11
 returns-11 c =
     by (c .halfword-word .ensures) (named-halfword
-    (c .before .before .before .before .before .before .before .before .before .before .before .before .args .i)
-    (sym (c .before .before .before .before .before .before .before .before .before .before .before .is-at .ensures)
-    ∙ c .before .before .before .before .before .before .before .before .before .before .if1 .left) _ (between 133 _ (c .before .before .before .before .before .before .before .before .before .before .before .before .args .i .name)
-    (omega arith)
-    (le-refl _)))
+    (c .before .before .before .before .before .before .before .before .before .before .before .before .before .args .i)
+    (sym (c .before .before .before .before .before .before .before .before .before .before .before .before .is-at .ensures)
+    ∙ c .before .before .before .before .before .before .before .before .before .before .before .if1 .left)
+    (between 133 148 (c .before .before .before .before .before .before .before .before .before .before .before .before .before .args .i .name)
+    (omega arith) (omega arith)))
+
+returns-12 : f.Tie.Need-returns-12
+returns-12 c =
+    by (c .coproc-word .ensures) (named-coproc
+    (c .before .before .before .before .before .before .before .before .before .before .before .before .before .args .i)
+    (sym (c .before .before .before .before .before .before .before .before .before .before .before .before .is-at .ensures)
+    ∙ c .before .before .before .before .before .before .before .before .before .before .before .if1 .left) _
+    (between 149 _ (c .before .before .before .before .before .before .before .before .before .before .before .before .before .args .i .name)
+    (omega arith) (le-refl _)))
 
 pub word-of-spec : {M : Type 1} → f.Statement.statement M
 word-of-spec =
     f.Tie.close (f.Tie.spec (search needs) (search needs)
     (λ c. by (c .address-word .ensures) (named-address _ (sym (c .before .before .is-at .ensures) ∙ c .before .if1 .taken))) (search needs) returns-2
     (search needs) returns-3 (search needs) returns-4 (search needs) returns-5 (search needs) returns-6 (search needs) returns-7 (search needs)
-    returns-8 (search needs) returns-9 (search needs) returns-10 (search needs) returns-11)
+    returns-8 (search needs) returns-9 (search needs) returns-10 (search needs) returns-11 (search needs) returns-12)

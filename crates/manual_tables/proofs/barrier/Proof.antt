@@ -24,7 +24,7 @@ depends w w' g g' (a, end) = unfold A5.hintsAndSimd in simp (eqb-true (field w 2
 returns : f.Tie.Need-returns
 unfolding field numberOf A5.hintsAndSimd
 returns c =
-    looked-where A5.hintsAndSimd asked (87 * 2 ^ 20) columns 233 depends tt (c .before .before .args .w) (eq-eqb _ _ (c .before .before .pre))
+    looked-where A5.hintsAndSimd asked (87 * 2 ^ 20) columns 242 depends tt (c .before .before .args .w) (eq-eqb _ _ (c .before .before .pre))
     (c .before .column .ensures .0) (c .title .ensures)
 
 pub barrier-spec : {M : Type 1} → f.Statement.statement M

@@ -35,7 +35,7 @@ unfolding field numberOf A5.hintsAndSimd
 returns c =
     kept (either (eqb (field (c .before .before .before .before .args .w) 20 7) 16) (eqb (field
     (c .before .before .before .before .args .w) 20 7) 87)) (neither (c .before .before .before .before .pre .0)
-    (c .before .before .before .before .pre .1)) (looked-where row asked (0) columns 233 depends tt (c .before .before .before .before .args .w)
+    (c .before .before .before .before .pre .1)) (looked-where row asked (0) columns 242 depends tt (c .before .before .before .before .args .w)
     (refl) (then 2 (then 2 (c .before .before .before .column .ensures .0) (c .before .before .column2 .ensures .0)) (c .before .is .ensures .0))
     (c .title .ensures))
 

@@ -26,7 +26,7 @@ depends w w' g g' (a, (b, end)) = simp (eqb-true (field w 20 7) 16 g, eqb-true (
 returns : f.Tie.Need-returns
 unfolding field numberOf A5.hintsAndSimd
 returns c =
-    looked-where A5.hintsAndSimd asked (16 * 2 ^ 20) columns 233 depends tt (c .before .before .before .args .w)
+    looked-where A5.hintsAndSimd asked (16 * 2 ^ 20) columns 242 depends tt (c .before .before .before .args .w)
     (eq-eqb _ _ (c .before .before .before .pre)) (then 2 (c .before .before .column .ensures .0) (c .before .column2 .ensures .0))
     (c .title .ensures)
 

@@ -30,7 +30,7 @@ depends w w' g g' (a, (b, end)) = simp (unconditional-op1, eqb-true (field w 27 
 returns : f.Tie.Need-returns
 unfolding field numberOf A5.unconditional
 returns c =
-    looked-where A5.unconditional asked (2 ^ 27) columns 249 depends tt (c .before .before .before .args .w)
+    looked-where A5.unconditional asked (2 ^ 27) columns 258 depends tt (c .before .before .before .args .w)
     (eq-eqb _ _ (c .before .before .before .pre)) (then 2 (c .before .before .column .ensures .0) (c .before .column2 .ensures .0))
     (c .title .ensures)
 

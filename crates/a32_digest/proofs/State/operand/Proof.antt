@@ -56,7 +56,8 @@ operand-spec =
     (search needs) (search needs) (search needs) (search needs) (search needs) (search needs) (search needs) (search needs) (search needs)
     (search needs) (search needs) (search needs) (search needs) (search needs) (search needs) (search needs) (search needs) (search needs)
     (search needs) (search needs) (search needs) (search needs) (search needs) (search needs) (search needs) (search needs) (search needs)
-    (search needs) (search needs) (search needs) (search needs) (search needs) (search needs) (search needs) (search needs)
+    (search needs) (search needs) (search needs) (search needs) (search needs) (search needs) (search needs) (search needs) (search needs)
+    (search needs) (search needs) (search needs) (search needs) (search needs)
     (λ c. simp (c .byte .ensures, c .before .enum-told .given .1))
     (λ c. simp (c .byte3 .ensures, c .before .byte2 .ensures, c .before .before .before .o .given .1)) returns-3 returns-4 returns-5
     (λ c. simp (c .byte15 .ensures, c .before .byte14 .ensures, c .before .before .before .o5 .given .1)) returns-7
@@ -66,4 +67,6 @@ operand-spec =
     (λ c. simp (c .half .ensures, c .before .byte24 .ensures, c .before .before .before .o11 .given .1))
     (λ c. simp (c .word2 .ensures, c .before .byte25 .ensures, c .before .before .before .o12 .given .1))
     (λ c. simp (c .mem .ensures, c .before .byte26 .ensures, c .before .before .before .o13 .given .1))
-    (λ c. simp (c .byte28 .ensures, c .before .byte27 .ensures, c .before .before .before .o14 .given .1)))
+    (λ c. simp (c .byte28 .ensures, c .before .byte27 .ensures, c .before .before .before .o14 .given .1))
+    (λ c. simp (c .byte30 .ensures, c .before .byte29 .ensures, c .before .before .before .o15 .given .1))
+    (λ c. simp (c .byte32 .ensures, c .before .byte31 .ensures, c .before .before .before .o16 .given .1)))

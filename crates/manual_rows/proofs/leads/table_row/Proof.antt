@@ -2,8 +2,7 @@
 use borrow.Author.Needs.{needs}
 use native.Mathlib.Omega.{arith}
 use Rattle.manual_rows.proofs.Leading.{lead, to-unconditional, to-data-processing, to-load-store, to-load-store-index, to-media}
-use Rattle.manual_rows.proofs.Leading.{to-branch-and-block}
-use Rattle.manual_rows.proofs.Leading.{to-coprocessor, coprocessor-number}
+use Rattle.manual_rows.proofs.Leading.{to-branch-and-block, to-coprocessor}
 use Rattle.manual_rows.proofs.leads.table_row as f
 
 pub table-row-spec : {M : Type 1} → f.Statement.statement M
@@ -14,5 +13,5 @@ table-row-spec =
     (λ c. lead (to-load-store _ (λ e. omega arith) (omega arith)) (c .load-store .ensures)) (search needs)
     (λ c. lead (to-load-store-index _ (λ e. omega arith) (omega arith) (omega arith)) (c .load-store2 .ensures)) (search needs)
     (λ c. lead (to-media _ (λ e. omega arith) (omega arith) (omega arith)) (c .media .ensures)) (search needs)
-    (λ c. lead (to-branch-and-block _ (λ e. omega arith) (omega arith) (omega arith)) (c .branch-and-block .ensures))
-    (λ c. lead (to-coprocessor _ (λ e. omega arith) (omega arith)) coprocessor-number))
+    (λ c. lead (to-branch-and-block _ (λ e. omega arith) (omega arith) (omega arith)) (c .branch-and-block .ensures)) (search needs)
+    (λ c. lead (to-coprocessor _ (λ e. omega arith) (omega arith)) (c .coprocessor .ensures)))
