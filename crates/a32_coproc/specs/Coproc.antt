@@ -38,17 +38,18 @@ D = 22
 abbrev pub byL : ℕ → ℕ → ℕ → ℕ
 byL w store load = pick (isClear w L) store load
 
--- mcr, mrc: coprocessor, opc1, Rt, CRn, CRm, opc2
-abbrev pub registerMoveOf : ℕ → ℕ → Decoded
-registerMoveOf w addr =
-    answer w addr (byL w (name "mcr") (name "mrc")) Next
-    (coprocessorOf w ∷ opcodeOf w 21 3 ∷ regOf w rd ∷ coRegOf w rn ∷ coRegOf w rm ∷ opcodeOf w 5 3 ∷ [])
+-- coprocessor, opc1, a register, CRn, CRm, opc2
+abbrev pub sixOf : ℕ → ℕ → ℕ → Operand → Operand → Decoded
+sixOf w addr name opc1 register =
+    answer w addr name Next (coprocessorOf w ∷ opc1 ∷ register ∷ coRegOf w rn ∷ coRegOf w rm ∷ opcodeOf w 5 3 ∷ [])
 
--- cdp: coprocessor, opc1, CRd, CRn, CRm, opc2
+-- mcr, mrc: the register is Rt
+abbrev pub registerMoveOf : ℕ → ℕ → Decoded
+registerMoveOf w addr = sixOf w addr (byL w (name "mcr") (name "mrc")) (opcodeOf w 21 3) (regOf w rd)
+
+-- cdp: it is CRd
 abbrev pub operationOf : ℕ → ℕ → Decoded
-operationOf w addr =
-    answer w addr (name "cdp") Next
-    (coprocessorOf w ∷ opcodeOf w 20 4 ∷ coRegOf w rd ∷ coRegOf w rn ∷ coRegOf w rm ∷ opcodeOf w 5 3 ∷ [])
+operationOf w addr = sixOf w addr (name "cdp") (opcodeOf w 20 4) (coRegOf w rd)
 
 -- mcrr, mrrc: coprocessor, opc1, Rt, Rt2, CRm
 abbrev pub pairMoveOf : ℕ → ℕ → Decoded

@@ -22,7 +22,7 @@ use word::refusal::NO_ROW;
 ghost use mathlib.Core.Path.{_≡_};
 ghost use Prim.Native.Nat.{_<_};
 ghost use Rattle.a32_coproc.specs.Coproc.{coprocOf, genericOf, floatingOf, coprocessorOf, coRegOf, byL, transferName};
-ghost use Rattle.a32_coproc.specs.Coproc.{registerMoveOf, operationOf, pairMoveOf, transferOf, unindexedOf};
+ghost use Rattle.a32_coproc.specs.Coproc.{registerMoveOf, operationOf, sixOf, pairMoveOf, transferOf, unindexedOf};
 
 /// `cdp`, `mcr`, `mrc`, `mcrr`, `mrrc`, `ldc` and `stc` move data and commands between the core and a coprocessor.
 /// Coprocessors 10 and 11 are the floating point unit; everything else is this, and it is what a system, a debug unit or a
@@ -77,21 +77,28 @@ fn generic(w: u32, addr: u64) -> Decoded
 fn register_move(w: u32, addr: u64) -> Decoded
     ensures { λ r. ⌜ r ≡ registerMoveOf w addr ⌝ }
 {
-    at(w, addr, by_l(w, name::MCR, name::MRC), Flow::Next).with(0, coprocessor(w))
-        .with(1, count(bits(w, 23, 21)))
-        .with(2, op_at(w, RD))
-        .with(3, co_reg(w, RN))
-        .with(4, co_reg(w, RM))
-        .with(5, count(bits(w, 7, 5)))
-        .accept()
+    six(
+        w,
+        addr,
+        by_l(w, name::MCR, name::MRC),
+        count(bits(w, 23, 21)),
+        op_at(w, RD),
+    )
 }
 
 fn operation(w: u32, addr: u64) -> Decoded
     ensures { λ r. ⌜ r ≡ operationOf w addr ⌝ }
 {
-    at(w, addr, name::CDP, Flow::Next).with(0, coprocessor(w))
-        .with(1, count(bits(w, 23, 20)))
-        .with(2, co_reg(w, RD))
+    six(w, addr, name::CDP, count(bits(w, 23, 20)), co_reg(w, RD))
+}
+
+/// What both have alike: the coprocessor, an opcode, a register, two of the coprocessor's, and a second opcode.
+fn six(w: u32, addr: u64, name: u16, opcode: Operand, register: Operand) -> Decoded
+    ensures { λ r. ⌜ r ≡ sixOf w addr name opcode register ⌝ }
+{
+    at(w, addr, name, Flow::Next).with(0, coprocessor(w))
+        .with(1, opcode)
+        .with(2, register)
         .with(3, co_reg(w, RN))
         .with(4, co_reg(w, RM))
         .with(5, count(bits(w, 7, 5)))

@@ -100,7 +100,7 @@ mem-back m = λ i. record {
   «minus_zero» = mark-back (m .«minus_zero») i;
 }
 
-abbrev operandBack : Flat → Operand
+abbrev pub operandBack : Flat → Operand
 operandBack f =
     pick (eqb (f .kind) 0) Empty
     (pick (eqb (f .kind) 1) (Register (record { 0 = f .reg }))
@@ -119,7 +119,7 @@ operandBack f =
     (pick (eqb (f .kind) 14) (Option (f .amount))
     (pick (eqb (f .kind) 15) (Coprocessor (f .amount)) (CoprocessorRegister (f .amount)))))))))))))))))
 
-operand-back : (o : Operand) → operandBack (operandFlat o) ≡ o
+pub operand-back : (o : Operand) → operandBack (operandFlat o) ≡ o
 operand-back Empty = refl
 operand-back (Register r) = refl
 operand-back (Shifted r k n) = ap (λ (x : Shift). Shifted r x n) (shift-back k)

@@ -1,7 +1,6 @@
 -- An operand's kind, of its numbers, is its own number; only the empty one has 0, and only a register 1. Assumes nothing.
-use mathlib.Core.Path.{_≡_, refl, ap₂}
+use mathlib.Core.Path.{_≡_, refl, sym, ap, ap₂, _∙_}
 use mathlib.Core.Bool.{true}
-use native.Mathlib.Omega.{arith}
 use Rattle.insn.specs.Numbers.{operandNumber}
 use Rattle.insn.specs.declared.Operand.{Operand}
 use Rattle.insn.specs.declared.Operand.the-variants.{Empty, Register, Shifted, ShiftBy, SaturateShift, Rotate, Count, Number, StatusMask}
@@ -10,6 +9,7 @@ use Rattle.insn.specs.declared.Operand.the-variants.{Coprocessor, CoprocessorRe
 use Rattle.insn_parts.specs.declared.Flat.{Flat}
 use Rattle.insn_parts.specs.Operands.{plainFlat, operandFlat}
 use Rattle.insn_same.specs.Same.{sameEnds}
+use Rattle.insn_same.proofs.Exact.{operand-back}
 
 pub kind-is : (o : Operand) → operandFlat o .kind ≡ operandNumber o
 kind-is Empty = refl
@@ -30,43 +30,12 @@ kind-is (Option n) = refl
 kind-is (Coprocessor n) = refl
 kind-is (CoprocessorRegister n) = refl
 
+-- an operand is what its numbers make it: so is one of a kind
 pub none-is : (o : Operand) → operandNumber o ≡ 0 → o ≡ Empty
-none-is Empty h = refl
-none-is (Register r) h = absurd (omega arith)
-none-is (Shifted r k n) h = absurd (omega arith)
-none-is (ShiftBy k r) h = absurd (omega arith)
-none-is (SaturateShift k n) h = absurd (omega arith)
-none-is (Rotate n) h = absurd (omega arith)
-none-is (Count z) h = absurd (omega arith)
-none-is (Number n) h = absurd (omega arith)
-none-is (StatusMask n) h = absurd (omega arith)
-none-is (StatusSource s) h = absurd (omega arith)
-none-is (WriteBack r) h = absurd (omega arith)
-none-is (List n) h = absurd (omega arith)
-none-is (Address n) h = absurd (omega arith)
-none-is (Memory m) h = absurd (omega arith)
-none-is (Option n) h = absurd (omega arith)
-none-is (Coprocessor n) h = absurd (omega arith)
-none-is (CoprocessorRegister n) h = absurd (omega arith)
+none-is o h = let kind : operandFlat o .kind ≡ 0 = kind-is o ∙ h in sym (operand-back o) ∙ simp kind
 
 pub register-is : (o : Operand) → operandNumber o ≡ 1 → operandFlat o ≡ plainFlat 1 (operandFlat o .reg) 0 0 0 0
-register-is Empty h = absurd (omega arith)
-register-is (Register r) h = refl
-register-is (Shifted r k n) h = absurd (omega arith)
-register-is (ShiftBy k r) h = absurd (omega arith)
-register-is (SaturateShift k n) h = absurd (omega arith)
-register-is (Rotate n) h = absurd (omega arith)
-register-is (Count z) h = absurd (omega arith)
-register-is (Number n) h = absurd (omega arith)
-register-is (StatusMask n) h = absurd (omega arith)
-register-is (StatusSource s) h = absurd (omega arith)
-register-is (WriteBack r) h = absurd (omega arith)
-register-is (List n) h = absurd (omega arith)
-register-is (Address n) h = absurd (omega arith)
-register-is (Memory m) h = absurd (omega arith)
-register-is (Option n) h = absurd (omega arith)
-register-is (Coprocessor n) h = absurd (omega arith)
-register-is (CoprocessorRegister n) h = absurd (omega arith)
+register-is o h = let kind : operandFlat o .kind ≡ 1 = kind-is o ∙ h in ap operandFlat (sym (operand-back o)) ∙ simp kind
 
 -- only a memory form has numbers after the first six
 abbrev Plain : Flat → Type 0
