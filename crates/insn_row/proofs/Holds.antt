@@ -17,7 +17,7 @@ both-first : (a b c : Bool) → both (both a b) c ≡ both a (both b c)
 both-first true b c = refl
 both-first false b c = refl
 
-in-parts : (row : List ℕ) (p : ℕ) (xs ys : List ℕ) → both (holds row p xs) (holds row (p + length xs) ys) ≡ holds row p (xs ++ ys)
+pub in-parts : (row : List ℕ) (p : ℕ) (xs ys : List ℕ) → both (holds row p xs) (holds row (p + length xs) ys) ≡ holds row p (xs ++ ys)
 in-parts row p [] ys = ap (λ (n : ℕ). holds row n ys) (add-zero p)
 in-parts row p (x ∷ xs) ys =
     both-first (eqb (getD row p 0) x) (holds row (suc p) xs) (holds row (p + suc (length xs)) ys)

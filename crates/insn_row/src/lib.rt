@@ -2,7 +2,6 @@
 use insn::Insn;
 use insn::Operand;
 use insn::PLACES;
-use insn::Place;
 use insn_parts::Flat;
 use insn_parts::flatten;
 use insn_value::number;
@@ -11,7 +10,7 @@ use word::refusal::NO_ROOM;
 ghost use mathlib.Core.Path.{_≡_};
 ghost use mathlib.Core.List.{[], _∷_};
 ghost use Prim.Native.Nat.{ℕ, _≤_, _<_};
-ghost use lib.ListN.{length, getD};
+ghost use lib.ListN.{length, getD, replicate};
 ghost use Rattle.insn_parts.specs.Operands.{plainFlat};
 ghost use Rattle.text.specs.Fits.{answerOf, lastOf};
 ghost use Rattle.text.specs.Put.{Room, Put};
@@ -44,20 +43,19 @@ fn put_insn(out: &mut [u64], i: Insn) -> usize
 {
     let cond = i.cond;
     let flow = i.flow;
-    let ops = i.ops;
     let at = put_three(out, 0, i.addr, i.name as u64, cond.0 as u64);
     let at = put_two(out, at, flow.number() as u64, flow.target() as u64);
-    put_places(out, at, ops)
+    put_places(out, at, i)
 }
 
-fn put_places(out: &mut [u64], at: usize, ops: [Place; PLACES]) -> usize
-    requires { ⌜ Room (now out) at (placesRow ops) ⌝ }
-    ensures { λ r. ⌜ Put (now (out .entry)) at (placesRow ops) r (now (out .exit)) ⌝ }
+fn put_places(out: &mut [u64], at: usize, i: Insn) -> usize
+    requires { ⌜ Room (now out) at (placesRow (i .ops)) ⌝ }
+    ensures { λ r. ⌜ Put (now (out .entry)) at (placesRow (i .ops)) r (now (out .exit)) ⌝ }
 {
     let mut at = at;
     let mut n = 0;
     while n < PLACES {
-        let place = ops[n];
+        let place = i.ops[n];
         let o = place.operand;
         at = put_operand(out, at, o);
         n += 1;
@@ -69,7 +67,28 @@ fn put_operand(out: &mut [u64], at: usize, o: Operand) -> usize
     requires { ⌜ Room (now out) at (operandRow o) ⌝ }
     ensures { λ r. ⌜ Put (now (out .entry)) at (operandRow o) r (now (out .exit)) ⌝ }
 {
-    let f = flatten(o);
+    match o {
+        Operand::Empty => put_flat(out, at, bare(0, 0)),
+        _ => put_used(out, at, o),
+    }
+}
+
+/// Most operands are registers: what they have no number for is written as zeros, for speed.
+fn put_used(out: &mut [u64], at: usize, o: Operand) -> usize
+    requires { ⌜ Room (now out) at (operandRow o) ⌝ }
+    ensures { λ r. ⌜ Put (now (out .entry)) at (operandRow o) r (now (out .exit)) ⌝ }
+{
+    match o {
+        Operand::Register(r) => put_flat(out, at, bare(1, r.0)),
+        _ => put_flat(out, at, flatten(o)),
+    }
+}
+
+fn put_flat(out: &mut [u64], at: usize, f: Flat) -> usize
+    requires { ⌜ Room (now out) at (flatRow f) ⌝ }
+    requires { ⌜ f .negative ≤ f .value ⌝ }
+    ensures { λ r. ⌜ Put (now (out .entry)) at (flatRow f) r (now (out .exit)) ⌝ }
+{
     let at = put_first(out, at, f);
     put_last(out, at, f)
 }
@@ -130,9 +149,16 @@ pub fn is_row(row: &[u64], i: Insn) -> bool
     if ROW <= row.len() {
         has_insn(row, i)
     } else {
-        let whole = padded(row);
-        has_insn(&whole, i)
+        is_padded(row, i)
     }
+}
+
+/// The same of a row that is too short.
+fn is_padded(row: &[u64], i: Insn) -> bool
+    ensures { λ r. ⌜ r ≡ holds (now (row .entry)) 0 (rowOf i) ⌝ }
+{
+    let whole = padded(row);
+    has_insn(&whole, i)
 }
 
 /// The first numbers of a row, as many as a row has.
@@ -155,10 +181,9 @@ fn has_insn(row: &[u64], i: Insn) -> bool
 {
     let cond = i.cond;
     let flow = i.flow;
-    let ops = i.ops;
     if has_three(row, 0, i.addr, i.name as u64, cond.0 as u64) {
         if has_two(row, 3, flow.number() as u64, flow.target() as u64) {
-            has_places(row, ops)
+            has_places(row, i)
         } else {
             false
         }
@@ -167,13 +192,13 @@ fn has_insn(row: &[u64], i: Insn) -> bool
     }
 }
 
-fn has_places(row: &[u64], ops: [Place; PLACES]) -> bool
-    requires { ⌜ Room (now row) 5 (placesRow ops) ⌝ }
-    ensures { λ r. ⌜ Told (now (row .entry)) 5 (placesRow ops) r ⌝ }
+fn has_places(row: &[u64], i: Insn) -> bool
+    requires { ⌜ Room (now row) 5 (placesRow (i .ops)) ⌝ }
+    ensures { λ r. ⌜ Told (now (row .entry)) 5 (placesRow (i .ops)) r ⌝ }
 {
     let mut n = 0;
     while n < PLACES {
-        let p = ops[n];
+        let p = i.ops[n];
         let o = p.operand;
         if !has_operand(row, 5 + 11 * n, o) {
             return false;
@@ -183,14 +208,14 @@ fn has_places(row: &[u64], ops: [Place; PLACES]) -> bool
     true
 }
 
-/// Most operands are of the first two kinds: what they have no number for is compared with zeros, for speed.
+/// What registers and unused places have no number for is compared with zeros, all at once.
 fn has_operand(row: &[u64], at: usize, o: Operand) -> bool
     requires { ⌜ Room (now row) at (operandRow o) ⌝ }
     ensures { λ r. ⌜ Told (now (row .entry)) at (operandRow o) r ⌝ }
 {
     match o {
-        Operand::Empty => has_flat(row, at, bare(0, 0)),
-        Operand::Register(r) => has_flat(row, at, bare(1, r.0)),
+        Operand::Empty => has_bare(row, at, 0, 0),
+        Operand::Register(r) => has_bare(row, at, 1, r.0),
         _ => has_flat(row, at, flatten(o)),
     }
 }
@@ -212,6 +237,27 @@ fn bare(kind: u8, reg: u8) -> Flat
         decimal: 0,
         minus: 0,
     }
+}
+
+fn has_bare(row: &[u64], at: usize, kind: u8, reg: u8) -> bool
+    requires { ⌜ Room (now row) at (flatRow (plainFlat kind reg 0 0 0 0)) ⌝ }
+    ensures { λ r. ⌜ Told (now (row .entry)) at (flatRow (plainFlat kind reg 0 0 0 0)) r ⌝ }
+{
+    if has_two(row, at, kind as u64, reg as u64) {
+        has_zeros(row, at + 2)
+    } else {
+        false
+    }
+}
+
+/// Whether nine numbers are zeros.
+fn has_zeros(row: &[u64], at: usize) -> bool
+    requires { ⌜ Room (now row) at (replicate 9 0) ⌝ }
+    ensures { λ r. ⌜ Told (now (row .entry)) at (replicate 9 0) r ⌝ }
+{
+    let four = row[at] | row[at + 1] | row[at + 2] | row[at + 3];
+    let eight = four | row[at + 4] | row[at + 5] | row[at + 6] | row[at + 7];
+    eight | row[at + 8] == 0
 }
 
 fn has_flat(row: &[u64], at: usize, f: Flat) -> bool

@@ -42,9 +42,12 @@ fn places_from(row: &[u64]) -> [Place; PLACES]
     let mut ops = [none; PLACES];
     let mut n = 0;
     while n < PLACES {
-        ops[n] = Place {
-            operand: operand_from(row, 5 + 11 * n),
-        };
+        let p = 5 + 11 * n;
+        if number(row, p) != 0 {
+            ops[n] = Place {
+                operand: operand_from(row, p),
+            };
+        }
         n += 1;
     }
     ops

@@ -6,7 +6,7 @@ use mathlib.Core.Bool.{Bool, true, false}
 use mathlib.Core.List.{List}
 use Prim.Native.Nat.{ℕ, suc, _+_, _*_, _-_, _<_, _≤_}
 use native.Mathlib.Omega.{arith}
-use lib.ListN.{length, take, drop}
+use lib.ListN.{length, take, drop, length-map}
 use lib.Seq.{take-all}
 use Rattle.insn.specs.Answer.{PLACES, placeAt}
 use Rattle.insn.specs.declared.Place.{Place}
@@ -15,12 +15,15 @@ use Rattle.insn_row.specs.Row.{operandRow, placesRow, Told}
 use Rattle.insn_row.proofs.Holds.{on, off}
 use Rattle.insn_row.proofs.Sizes.{places-size, size-before}
 use Rattle.insn_row.proofs.has_places as f
+use Rattle.insn_row.proofs.has_places.Lts as lts
+use Rattle.insn_row.proofs.has_places.Reads as reads
+use Rattle.insn_row.proofs.has_operand.Reads as has-operand
 
 abbrev Inv-loop : f.Tie.InvT-loop
-Inv-loop row ops n₀ n = (n ≤ PLACES) × Told row 5 (placesRow (take n ops)) true
+Inv-loop row i n₀ n = (n ≤ PLACES) × Told row 5 (placesRow (take n (i .ops))) true
 
 abbrev μ-loop : f.Tie.MeasureT-loop
-μ-loop row ops n₀ n = PLACES - n
+μ-loop row i n₀ n = PLACES - n
 
 -- place n, where the row has those before it
 module _ (row : List ℕ) (ops : List Place) (n : ℕ) {r : Bool} (there : n < length ops) (before : Told row 5 (placesRow (take n ops)) true)
@@ -34,16 +37,19 @@ module _ (row : List ℕ) (ops : List Place) (n : ℕ) {r : Bool} (there : n < l
   unequal : r ≡ false → Told row 5 (placesRow ops) false
   unequal e = rw (in-turn operandRow ops n there) (on before refl (off (placesRow (drop (suc n) ops)) next e))
 
+places : (c : lts.Start (has-operand.Asked, has-operand.Learnt) reads.Pre reads.Post Inv-loop μ-loop) → length (c .args .t2 .ops) ≡ PLACES
+places c = simp length-map at (c .good .1 .0 .1 .1 .1 .1 .1 .1 .0 .1 .0 .1)
+
 has-operand-requires : f.Tie.Need-has-operand-requires Inv-loop μ-loop
 has-operand-requires c κs =
     let start = c .before .before .before .before in
-    omega (arith, start .pre, places-size (start .args .t2), start .good .1 .0 .1 .0 .1)
+    omega (arith, start .pre, places-size (start .args .t2 .ops), places start)
 
 returns : f.Tie.Need-returns Inv-loop μ-loop
 returns c =
     let loop = c .before .before .before .before .loop in
     let start = c .before .before .before .before .before .before in
-    unequal _ (start .args .t2) (loop .n) (omega (arith, start .good .1 .0 .1 .0 .1)) (loop .inv .1) (c .before .has-operand .ensures)
+    unequal _ (start .args .t2 .ops) (loop .n) (omega (arith, places start)) (loop .inv .1) (c .before .has-operand .ensures)
     (not-true _ (c .if1 .taken))
 
 loop-again : f.Tie.Need-loop-again Inv-loop μ-loop
@@ -51,14 +57,14 @@ loop-again c =
     let loop = c .before .before .before .before .loop in
     let start = c .before .before .before .before .before .before in (
       omega arith,
-      equal _ (start .args .t2) (loop .n) (omega (arith, start .good .1 .0 .1 .0 .1)) (loop .inv .1) (c .before .has-operand .ensures)
+      equal _ (start .args .t2 .ops) (loop .n) (omega (arith, places start)) (loop .inv .1) (c .before .has-operand .ensures)
           (not-false _ (c .if1 .left)),
     )
 
 returns-2 : f.Tie.Need-returns-2 Inv-loop μ-loop
 returns-2 c =
     let start = c .before .before .before in
-    rw (take-all (c .before .loop .n) (start .args .t2) (omega (arith, start .good .1 .0 .1 .0 .1))) at (c .before .loop .inv .1)
+    rw (take-all (c .before .loop .n) (start .args .t2 .ops) (omega (arith, places start))) at (c .before .loop .inv .1)
 
 pub has-places-spec : {M : Type 1} → f.Statement.statement M
 has-places-spec =
