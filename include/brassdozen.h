@@ -1,8 +1,8 @@
-/* Brassdozen for C: a decoder, an encoder and a lister of A32, and a walk through it, each function proved to meet the contract that stands
-   here in words. docs/LIBRARY.md says how to build the library, and where its proof ends.
+/* Brassdozen for C: a decoder, an encoder and a lister of A32, a walk through it and counts over it, each function proved to meet the contract
+   that stands here in words. docs/LIBRARY.md says how to build the library, and where its proof ends.
 
-   Every function returns, for every word, address and content of what it is lent, and does nothing but write to its `out`, `row` or `records`.
-   It keeps nothing, takes nothing but a little stack and may be called by several threads at once.
+   Every function returns, for every word, address and content of what it is lent, and does nothing but write to its `out`, `row`, `records`
+   or `counts`. It keeps nothing, takes nothing but a little stack and may be called by several threads at once.
 
    What the caller owes: a pointer is aligned for its type and not null, even where its length is 0; so many elements behind it are readable,
    and behind a pointer that is not const writable; and nothing else touches those, the other argument of the same call neither, until the
@@ -19,26 +19,27 @@ extern "C" {
 
 /* The version of this header: 10,000 for each major one, 100 for each minor one, and one for each patch. The major one changes where what is
    here changes, a row or a function, and the minor one where something is added. */
-enum { BRASSDOZEN_VERSION = 30000 };
+enum { BRASSDOZEN_VERSION = 30100 };
 
 /* The version of the library that is linked. */
 uint32_t brassdozen_version(void);
 
 /* A refusal's number, or 0. */
 enum {
-    BRASSDOZEN_SHORT = 1,          /* decoding bytes: fewer than four */
-    BRASSDOZEN_COPROCESSOR = 2,    /* decoding: condition below 15, bits 27:26 = 11, coprocessor 10 or 11 */
-    BRASSDOZEN_NO_ROW = 3,         /* decoding: any other word that names no instruction that is known here */
-    BRASSDOZEN_NO_WORD = 4,        /* encoding: no word's answer has this row */
-    BRASSDOZEN_BAD_MARK = 5,       /* a section: its mark is not RSX */
-    BRASSDOZEN_BAD_VERSION = 6,    /* a section: its version is neither 1 nor 2 */
-    BRASSDOZEN_BAD_LENGTH = 7,     /* a section: shorter than 9 bytes, the count of ranges or a range cut short, or not whole words */
-    BRASSDOZEN_TOO_MANY_WORDS = 8, /* a section: more than 4,096 words */
-    BRASSDOZEN_BAD_BASE = 9,       /* a section: its base is no multiple of 4, or its words go beyond the last address */
-    BRASSDOZEN_NO_ROOM = 10,       /* writing: longer than what is lent */
-    BRASSDOZEN_BAD_RANGES = 11,    /* a section: more than 64 ranges, or one that is empty, not in the section, or not after the one before it */
-    BRASSDOZEN_HAS_RANGES = 12,    /* converting to version 1: a section with ranges */
-    BRASSDOZEN_NO_PLACE = 13       /* walking: the entry is no place of the section */
+    BRASSDOZEN_SHORT = 1,             /* decoding bytes: fewer than four */
+    BRASSDOZEN_COPROCESSOR = 2,       /* decoding: condition below 15, bits 27:26 = 11, coprocessor 10 or 11 */
+    BRASSDOZEN_NO_ROW = 3,            /* decoding: any other word that names no instruction that is known here */
+    BRASSDOZEN_NO_WORD = 4,           /* encoding: no word's answer has this row */
+    BRASSDOZEN_BAD_MARK = 5,          /* a section: its mark is not RSX */
+    BRASSDOZEN_BAD_VERSION = 6,       /* a section: its version is neither 1 nor 2 */
+    BRASSDOZEN_BAD_LENGTH = 7,        /* a section: shorter than 9 bytes, the count of ranges or a range cut short, or not whole words */
+    BRASSDOZEN_TOO_MANY_WORDS = 8,    /* a section: more than 4,096 words */
+    BRASSDOZEN_BAD_BASE = 9,          /* a section: its base is no multiple of 4, or its words go beyond the last address */
+    BRASSDOZEN_NO_ROOM = 10,          /* writing: longer than what is lent; adding: fewer numbers lent than a tally has */
+    BRASSDOZEN_BAD_RANGES = 11,       /* a section: more than 64 ranges, or one that is empty, not in the section, or not after the one before it */
+    BRASSDOZEN_HAS_RANGES = 12,       /* converting to version 1: a section with ranges */
+    BRASSDOZEN_NO_PLACE = 13,         /* walking: the entry is no place of the section */
+    BRASSDOZEN_TOO_MANY_SECTIONS = 16 /* adding to a tally: 65,536 sections are in it */
 };
 
 /* Where a function gives a number of 64 bits, the refusal stands above 32 bits of result, which are 0 beside a refusal. */
@@ -50,7 +51,8 @@ enum {
     BRASSDOZEN_LINE = 96,        /* no line has more bytes */
     BRASSDOZEN_LISTING = 393280, /* no listing has more bytes */
     BRASSDOZEN_SECTION = 16907,  /* no section that is accepted has more bytes */
-    BRASSDOZEN_REPORT = 49152    /* no report of a walk has more numbers */
+    BRASSDOZEN_REPORT = 49152,   /* no report of a walk has more numbers */
+    BRASSDOZEN_TALLY = 171       /* the numbers of a tally */
 };
 
 /* A row: an instruction value as numbers.
@@ -147,6 +149,25 @@ uint64_t brassdozen_walk(const uint8_t *section, size_t bytes, uint32_t entry, u
 
 static inline uint32_t brassdozen_walk_records(uint64_t given) { return (uint32_t)(given & 0xffff); }
 static inline uint32_t brassdozen_walk_words(uint64_t given) { return (uint32_t)given >> 16; }
+
+/* The numbers of a tally, by their places. */
+enum {
+    BRASSDOZEN_SECTIONS = 0, /* sections */
+    BRASSDOZEN_WORDS = 1,    /* words, data among them */
+    BRASSDOZEN_DATA = 2,     /* words that are data */
+    BRASSDOZEN_REFUSED = 1,  /* words that are refused: with number n, 2 or 3, at place 1 + n */
+    BRASSDOZEN_FLOWS = 5,    /* accepted words by their flow: with flow n, 0 to 7 as a row has it, at place 5 + n */
+    BRASSDOZEN_ROOTS = 13    /* accepted words by their name: with name n, 0 to 157 as a row has it, at place 13 + n */
+};
+
+/* Adds a section to the tally in the first 171 numbers of `counts`, and the result is 0. A tally of no sections is zeros. A section that is not
+   accepted is refused with 5, 6, 7, 8, 9 or 11, as its listing says; else, with 10, a `length` below 171, of which nothing is read; and else, with
+   16, exactly if 65,536 sections or more are in the tally. A refusal changes no number of `counts`, and nothing changes one after the 171.
+
+   So from zeros on, whatever was refused on the way, each number is how many of what it counts the sections that were added have, in any order;
+   flows and names each sum to the accepted words, and words are those, the refused ones and data. Other numbers are taken for a tally too, and
+   grow modulo 2^64. */
+uint8_t brassdozen_tally(const uint8_t *section, size_t bytes, uint64_t *counts, size_t length);
 
 #ifdef __cplusplus
 }

@@ -344,6 +344,64 @@ static void check_walk(void)
     check_no_walk(many, sizeof many, 0, BRASSDOZEN_TOO_MANY_WORDS);
 }
 
+/* A section that is refused, whatever the numbers and however many: none of them changes. */
+static void check_not_added(const uint8_t *section, size_t bytes, const uint64_t *numbers, size_t length, unsigned refusal)
+{
+    uint64_t counts[BRASSDOZEN_TALLY + 3];
+    memcpy(counts, numbers, sizeof counts);
+    CHECK(brassdozen_tally(section, bytes, counts, length) == refusal);
+    CHECK(memcmp(counts, numbers, sizeof counts) == 0);
+}
+
+/* At 8000 in version 2: 0 mov r0 r0, 1 bl, 2 data, 3 a supervisor call, 4 a word of coprocessor 10. */
+static void check_tally(void)
+{
+    enum { BYTES = 19 + 4 * 5 };
+    uint8_t section[BYTES] = {'R', 'S', 'X', 2, 0, 0, 0x80, 0, 0, 1, 0, 2, 0, 0, 0, 1, 0, 0, 0};
+    static const uint32_t words[] = {0xe1a00000, 0xeb000000, 0xe1a00000, 0xef000000, 0xed900a00};
+    for (size_t place = 0; place < 5; place++)
+        for (size_t byte = 0; byte < 4; byte++)
+            section[19 + 4 * place + byte] = (uint8_t)(words[place] >> 8 * byte);
+    uint64_t row[BRASSDOZEN_ROW], once[BRASSDOZEN_TALLY] = {0};
+    once[BRASSDOZEN_SECTIONS] = 1;
+    once[BRASSDOZEN_WORDS] = 5;
+    once[BRASSDOZEN_DATA] = 1;
+    once[BRASSDOZEN_REFUSED + BRASSDOZEN_COPROCESSOR] = 1;
+    once[BRASSDOZEN_REFUSED + BRASSDOZEN_NO_ROW] = 1;
+    for (size_t place = 0; place < 2; place++) {
+        CHECK(brassdozen_decode(words[place], 0x8000 + 4 * place, row, BRASSDOZEN_ROW) == 0);
+        once[BRASSDOZEN_FLOWS + row[3]]++;
+        once[BRASSDOZEN_ROOTS + row[1]]++;
+    }
+
+    uint64_t counts[BRASSDOZEN_TALLY + 3];
+    memset(counts, UNTOUCHED, sizeof counts);
+    memset(counts, 0, BRASSDOZEN_TALLY * sizeof *counts);
+    for (uint64_t times = 1; times < 4; times++) {
+        CHECK(brassdozen_tally(section, BYTES, counts, BRASSDOZEN_TALLY + 3 * (times & 1)) == 0);
+        for (size_t place = 0; place < BRASSDOZEN_TALLY; place++)
+            CHECK(counts[place] == times * once[place]);
+        CHECK(untouched(counts + BRASSDOZEN_TALLY, counts + BRASSDOZEN_TALLY + 3));
+    }
+    for (size_t length = 0; length < BRASSDOZEN_TALLY; length++) {
+        check_not_added(section, BYTES, counts, length, BRASSDOZEN_NO_ROOM);
+        check_not_added(section, BYTES - 1, counts, length, BRASSDOZEN_BAD_LENGTH);
+    }
+
+    /* Any numbers are a tally: 65,535 sections take one more, and counts go on from 0. */
+    counts[BRASSDOZEN_SECTIONS] = 65535;
+    counts[BRASSDOZEN_WORDS] = UINT64_MAX;
+    CHECK(brassdozen_tally(section, BYTES, counts, BRASSDOZEN_TALLY) == 0);
+    CHECK(counts[BRASSDOZEN_SECTIONS] == 65536 && counts[BRASSDOZEN_WORDS] == 4);
+    check_not_added(section, BYTES, counts, BRASSDOZEN_TALLY, BRASSDOZEN_TOO_MANY_SECTIONS);
+    check_not_added(section, BYTES, counts, BRASSDOZEN_TALLY - 1, BRASSDOZEN_NO_ROOM);
+    check_not_added(section, BYTES - 1, counts, BRASSDOZEN_TALLY, BRASSDOZEN_BAD_LENGTH);
+    counts[BRASSDOZEN_SECTIONS] = UINT64_MAX;
+    check_not_added(section, BYTES, counts, BRASSDOZEN_TALLY, BRASSDOZEN_TOO_MANY_SECTIONS);
+    section[5] = 2;
+    check_not_added(section, BYTES, counts, BRASSDOZEN_TALLY, BRASSDOZEN_BAD_BASE);
+}
+
 int main(void)
 {
     static uint8_t words[4 * 4096];
@@ -372,6 +430,7 @@ int main(void)
     static const uint8_t many[9 + 4 * 4097] = "RSX\1";
     check_refused(brassdozen_to_v2, many, sizeof many, BRASSDOZEN_TOO_MANY_WORDS);
     check_walk();
+    check_tally();
     CHECK(brassdozen_version() == BRASSDOZEN_VERSION);
     uint64_t nothing = 0;
     CHECK(brassdozen_refusal(brassdozen_encode(&nothing, 0)) == BRASSDOZEN_NO_WORD);

@@ -26,6 +26,8 @@ mod reports;
 mod row;
 mod section;
 mod sweep;
+mod tallies;
+mod tally;
 mod trip;
 mod values;
 mod walk;
@@ -65,6 +67,7 @@ modes of the oracle (numbers are hexadecimal, but COUNT, SEED and ENTRY; no SET 
   load COUNT SEED PROGRAM ..  runs the program on each instead
   walk FILE ENTRY ..   prints the report of a walk through a section from each place
   walks COUNT SEED     has the proved code walk through made-up and stored sections
+  tallies COUNT SEED FILE ..  has it count over the sections in the files and made-up ones
   SET                  FIRST COUNT, 'branches', or 'coprocessors'";
 
 fn main() -> ExitCode {
@@ -120,6 +123,14 @@ fn run(arguments: &[&str]) -> Result<ExitCode, String> {
         ["walks", count, seed] => {
             let (tally, failures) = walks::walks(proved()?, decimal(count)?, decimal(seed)?);
             println!("{tally}\n{failures} failures");
+            return Ok(success_if(failures == 0));
+        }
+        ["tallies", count, seed, files @ ..] => {
+            let read = |file: &&str| fs::read(file).map_err(|why| format!("{file}: {why}"));
+            let sections = files.iter().map(read).collect::<Result<_, _>>()?;
+            let (count, seed) = (decimal(count)?, decimal(seed)?);
+            let (orders, failures) = tallies::tallies(proved()?, sections, count, seed);
+            println!("{orders}\n{failures} failures");
             return Ok(success_if(failures == 0));
         }
         _ => return Err(USAGE.to_string()),

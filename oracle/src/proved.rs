@@ -29,6 +29,8 @@ pub struct Proved {
     /// Writes the report of a walk from a place to the start of `records`. Gives what `Coded::of`
     /// reads, with the number of records in the word's lower half and of words reached in its upper.
     pub walk: fn(section: &[u8], entry: u32, records: &mut [u32]) -> u64,
+    /// Adds a section to the tally at the start of `counts`. Gives the refusal.
+    pub tally: fn(section: &[u8], counts: &mut [u64]) -> u8,
 }
 
 /// What encoding gives: a word beside no refusal, or a refusal's number beside word 0.
@@ -81,6 +83,7 @@ pub const PROVED: Option<Proved> = Some(Proved {
     to_v1: linked::to_v1,
     to_v2: linked::to_v2,
     walk: linked::walk,
+    tally: linked::tally,
 });
 
 #[cfg(not(proved))]
@@ -107,6 +110,12 @@ mod linked {
             records: *mut u32,
             numbers: usize,
         ) -> u64;
+        fn brassdozen_tally(
+            section: *const u8,
+            bytes: usize,
+            counts: *mut u64,
+            numbers: usize,
+        ) -> u8;
     }
 
     // Safety: a slice of Rattle's is a pointer and how many numbers it points at; it is only read
@@ -139,5 +148,10 @@ mod linked {
     pub fn walk(section: &[u8], entry: u32, records: &mut [u32]) -> u64 {
         let (numbers, length) = (records.as_mut_ptr(), records.len());
         unsafe { brassdozen_walk(section.as_ptr(), section.len(), entry, numbers, length) }
+    }
+
+    pub fn tally(section: &[u8], counts: &mut [u64]) -> u8 {
+        let (numbers, length) = (counts.as_mut_ptr(), counts.len());
+        unsafe { brassdozen_tally(section.as_ptr(), section.len(), numbers, length) }
     }
 }

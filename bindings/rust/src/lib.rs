@@ -1,5 +1,5 @@
-//! Brassdozen for Rust: a decoder, an encoder and a lister of A32, and a walk through it, proved to
-//! meet their contracts.
+//! Brassdozen for Rust: a decoder, an encoder and a lister of A32, a walk through it and counts over
+//! it, proved to meet their contracts.
 //!
 //! Each function here is safe and calls one of `include/brassdozen.h`, which has its contract in
 //! words, and the layout of a row.
@@ -7,7 +7,7 @@
 #![no_std]
 
 /// The version that these declarations are of, as `BRASSDOZEN_VERSION` of the header says it.
-pub const VERSION: u32 = 30_000;
+pub const VERSION: u32 = 30_100;
 
 /// How many numbers a row has.
 pub const ROW: usize = 71;
@@ -23,6 +23,9 @@ pub const SECTION: usize = 16_907;
 
 /// No report of a walk has more numbers.
 pub const REPORT: usize = 49_152;
+
+/// How many numbers a tally has.
+pub const TALLY: usize = 171;
 
 /// The number of a refusal.
 #[derive(Debug, Clone, Copy, PartialEq, Eq)]
@@ -56,7 +59,7 @@ impl Refusal {
     /// A section: its base is no multiple of 4, or its words go beyond the last address.
     pub const BAD_BASE: Refusal = Refusal(9);
 
-    /// Writing: longer than what is lent.
+    /// Writing: longer than what is lent. Adding: fewer numbers lent than a tally has.
     pub const NO_ROOM: Refusal = Refusal(10);
 
     /// A section: more than 64 ranges, or one that is empty, not in the section, or not after the
@@ -68,6 +71,9 @@ impl Refusal {
 
     /// Walking: the entry is no place of the section.
     pub const NO_PLACE: Refusal = Refusal(13);
+
+    /// Adding to a tally: 65,536 sections are in it.
+    pub const TOO_MANY_SECTIONS: Refusal = Refusal(16);
 }
 
 impl core::error::Error for Refusal {}
@@ -94,6 +100,7 @@ impl core::fmt::Display for Refusal {
             }
             12 => ": ranges of data, which version 1 does not have",
             13 => ": entry not a place in the section",
+            16 => ": 65,536 sections in the tally already",
             _ => "",
         };
         write!(f, "refused {}{why}", self.0)
@@ -213,6 +220,34 @@ pub fn walk(section: &[u8], entry: u32, records: &mut [u32]) -> Result<Walk, Ref
     })
 }
 
+/// Where the numbers of a tally stand.
+pub mod count {
+    /// Sections.
+    pub const SECTIONS: usize = 0;
+
+    /// Words, data among them.
+    pub const WORDS: usize = 1;
+
+    /// Words that are data.
+    pub const DATA: usize = 2;
+
+    /// Words that are refused: with number n, 2 or 3, at place 1 + n.
+    pub const REFUSED: usize = 1;
+
+    /// Accepted words by their flow: with flow n, as a row has it, at place 5 + n.
+    pub const FLOWS: usize = 5;
+
+    /// Accepted words by their name: with name n, as a row has it, at place 13 + n.
+    pub const ROOTS: usize = 13;
+}
+
+/// Adds a section to the tally in the first numbers of `counts`; a tally of no sections is zeros. A
+/// refusal changes no number.
+pub fn tally(section: &[u8], counts: &mut [u64]) -> Result<(), Refusal> {
+    let (numbers, length) = (counts.as_mut_ptr(), counts.len());
+    done(unsafe { foreign::brassdozen_tally(section.as_ptr(), section.len(), numbers, length) })
+}
+
 /// A refusal's number, or 0.
 fn done(refusal: u8) -> Result<(), Refusal> {
     match refusal {
@@ -274,5 +309,11 @@ mod foreign {
             records: *mut u32,
             length: usize,
         ) -> u64;
+        pub fn brassdozen_tally(
+            section: *const u8,
+            bytes: usize,
+            counts: *mut u64,
+            length: usize,
+        ) -> u8;
     }
 }

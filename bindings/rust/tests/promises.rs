@@ -6,8 +6,9 @@ use std::fs;
 use std::path::PathBuf;
 
 use brassdozen::{
-    LINE, LISTING, REPORT, ROW, Refusal, SECTION, VERSION, Walk, decode, decode_bytes, encode,
-    encode_zeros, home, home_zeros, kind, line, listing, to_v1, to_v2, version, walk,
+    LINE, LISTING, REPORT, ROW, Refusal, SECTION, TALLY, VERSION, Walk, count, decode,
+    decode_bytes, encode, encode_zeros, home, home_zeros, kind, line, listing, tally, to_v1, to_v2,
+    version, walk,
 };
 
 /// What a buffer holds before a call.
@@ -890,4 +891,93 @@ fn walks_go_as_rows_lead() {
         }
     }
     assert!(seen.iter().all(|&records| records > 1_000), "{seen:?}");
+}
+
+/// A section is refused with this, whatever the numbers, and none of them is changed.
+fn not_added(section: &[u8], counts: &[u64], refusal: Refusal) {
+    let mut lent = counts.to_vec();
+    assert_eq!(tally(section, &mut lent), Err(refusal));
+    assert_eq!(lent, counts);
+}
+
+/// What a section adds to a tally, by the rows of its words.
+fn added_by_rows(base: u32, words: &[u32], is_data: impl Fn(u32) -> bool) -> [u64; TALLY] {
+    let mut counts = [0; TALLY];
+    counts[count::SECTIONS] = 1;
+    counts[count::WORDS] = words.len() as u64;
+    for (place, &word) in (0..).zip(words) {
+        if is_data(place) {
+            counts[count::DATA] += 1;
+            continue;
+        }
+        match decoded(word, u64::from(base) + 4 * u64::from(place)) {
+            Err(Refusal(number)) => counts[count::REFUSED + usize::from(number)] += 1,
+            Ok(row) => {
+                counts[count::FLOWS + row[3] as usize] += 1;
+                counts[count::ROOTS + row[1] as usize] += 1;
+            }
+        }
+    }
+    counts
+}
+
+#[test]
+fn a_tally_counts_as_rows_say_in_any_order() {
+    let mut random = Random(12);
+    let mut right = vec![0; TALLY];
+    right.extend([UNTOUCHED_NUMBER; 3]);
+    let start = right.clone();
+    let mut sections = Vec::new();
+    for _ in 0..1_000 {
+        let (base, words, ranges) = random_section(&mut random);
+        let has = |place| {
+            let has = |&(first, words)| (first..first + words).contains(&place);
+            ranges.iter().any(has)
+        };
+        let one = added_by_rows(base, &words, |_| false);
+        let two = added_by_rows(base, &words, has);
+        for (place, right) in right[..TALLY].iter_mut().enumerate() {
+            *right += one[place] + two[place];
+        }
+        sections.push((section_1(base, &words), Ok(())));
+        sections.push((section_2(base, &ranges, &words), Ok(())));
+        let cut = section_1(base + 2, &words);
+        sections.push((cut, Err(Refusal::BAD_BASE)));
+    }
+    for _ in 0..3 {
+        let mut counts = start.clone();
+        for (section, given) in &sections {
+            assert_eq!(tally(section, &mut counts), *given);
+        }
+        assert_eq!(counts, right);
+        for place in (1..sections.len()).rev() {
+            sections.swap(place, random.below(place as u64 + 1) as usize);
+        }
+    }
+    let accepted = right[count::FLOWS..count::ROOTS].iter().sum::<u64>();
+    assert_eq!(accepted, right[count::ROOTS..TALLY].iter().sum());
+    assert_eq!(
+        right[count::WORDS],
+        right[count::DATA] + right[3] + right[4] + accepted
+    );
+}
+
+#[test]
+fn a_tally_has_a_most() {
+    let section = section_1(0x8000, &[0xe1a0_0000]);
+    let cut = &section[..section.len() - 1];
+    let mut counts = [u64::MAX; TALLY];
+    not_added(&section, &counts, Refusal::TOO_MANY_SECTIONS);
+    not_added(cut, &counts, Refusal::BAD_LENGTH);
+    counts[count::SECTIONS] = 65_535;
+    for length in 0..TALLY {
+        not_added(&section, &counts[..length], Refusal::NO_ROOM);
+        not_added(cut, &counts[..length], Refusal::BAD_LENGTH);
+    }
+    assert_eq!(tally(&section, &mut counts), Ok(()));
+    assert_eq!(counts[..3], [65_536, 0, u64::MAX]);
+    not_added(&section, &counts, Refusal::TOO_MANY_SECTIONS);
+    not_added(&section, &counts[..TALLY - 1], Refusal::NO_ROOM);
+    counts[count::SECTIONS] = 65_537;
+    not_added(&section, &counts, Refusal::TOO_MANY_SECTIONS);
 }

@@ -8,15 +8,16 @@ use brassdozen::Refusal;
 #[test]
 fn refusals_read_as_the_table_has_them() {
     let table = include_str!("../../../refusals.txt");
-    let mut count = 0;
+    let mut last = 0;
     for line in table.lines() {
         let (number, why) = line.split_once(' ').expect("a number and a reason");
         let refusal = Refusal(number.parse().expect("a number"));
         assert_eq!(refusal.to_string(), format!("refused {number}: {why}"));
-        count += 1;
+        assert!(refusal.0 > last);
+        last = refusal.0;
     }
-    assert!(count >= 13);
-    for number in [0, count + 1, 255] {
+    assert!(last >= 16);
+    for number in [0, last + 1, 255] {
         assert_eq!(Refusal(number).to_string(), format!("refused {number}"));
     }
 }

@@ -17,6 +17,7 @@ use Rattle.brassdozen.proofs.brassdozen_home_zeros.Reads as home-zeros
 use Rattle.brassdozen.proofs.brassdozen_line.Reads as line
 use Rattle.brassdozen.proofs.brassdozen_listing.Reads as listing
 use Rattle.brassdozen.proofs.brassdozen_walk.Reads as walk
+use Rattle.brassdozen.proofs.brassdozen_tally.Reads as tally
 use Rattle.brassdozen.proofs.brassdozen_to_v1.Reads as to-v1
 use Rattle.brassdozen.proofs.brassdozen_to_v2.Reads as to-v2
 
@@ -61,3 +62,6 @@ pub walk-only : (κs : _) (a : _) (r r′ : _) (s s′ : _) → walk.Post κs a 
 walk-only κs a r r′ s s′ p q =
     let same = walks-only (p .walks) (q .walks) in
     (p .given ∙ ap (λ (w : Walked). packed (w .refusal) (2 ^ 16 * w .words + w .records)) (same .0) ∙ sym (q .given), same .1)
+
+pub tally-only : (κs : _) (a : _) (r r′ : _) (s s′ : _) → tally.Post κs a r s → tally.Post κs a r′ s′ → (r ≡ r′) × (now (s .1 .0) ≡ now (s′ .1 .0))
+tally-only κs a r r′ s s′ p q = (p .0 ∙ sym (q .0), p .1 ∙ sym (q .1))

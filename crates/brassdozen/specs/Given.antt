@@ -20,9 +20,9 @@ use Rattle.walk.specs.Walk.{Walks}
 use Rattle.walk.specs.declared.Walked.{Walked}
 use Rattle.insn_row.specs.Row.{ROW, rowOf, numbersOf, holds}
 
--- 3.0.0
+-- 3.1.0
 abbrev pub VERSION : ℕ
-VERSION = 30000
+VERSION = 30100
 
 -- an answer's refusal; or, of an accepted one, 10 if its row is longer than what is lent
 abbrev pub rowRefusal : Decoded → List ℕ → ℕ

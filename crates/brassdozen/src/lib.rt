@@ -13,6 +13,7 @@ use line::line;
 use listing_text::listing;
 use section_convert::Target;
 use section_convert::convert;
+use tally::add_to;
 use walk::walk;
 use word::refusal::NO_WORD;
 use word_packed::pack;
@@ -22,6 +23,7 @@ ghost use Rattle.text.specs.Fits.{answerOf, lastOf};
 ghost use Rattle.line_spelling.specs.Line.{lineOf};
 ghost use Rattle.section_convert.specs.Convert.{leftOf};
 ghost use Rattle.listing_text.specs.Listing.{listingOf};
+ghost use Rattle.tally.specs.Tally.{ownOf, lentRefusal, lentLast};
 ghost use Rattle.brassdozen.specs.Given.{WalksForC};
 ghost use Rattle.brassdozen.specs.Given.{VERSION, rowRefusal, rowLast, encodedOf, homedOf, writtenOf, convertedTo};
 
@@ -30,7 +32,7 @@ ghost use Rattle.brassdozen.specs.Given.{VERSION, rowRefusal, rowLast, e
 pub extern "C" fn brassdozen_version() -> u32
     ensures { λ r. ⌜ r ≡ VERSION ⌝ }
 {
-    30_000
+    30_100
 }
 
 /// Decodes `word` at `addr` into the row of its answer, and gives 0; or gives a refusal's number.
@@ -167,4 +169,13 @@ pub extern "C" fn brassdozen_walk(section: &[u8], entry: u32, records: &mut [u32
 {
     let w = walk(section, entry as usize, records);
     pack(w.refusal, 0x1_0000 * w.words as u32 + w.records as u32)
+}
+
+/// Adds `section` to the tally at the start of `counts`, and gives 0; or gives a refusal's number.
+#[no_mangle]
+pub extern "C" fn brassdozen_tally(section: &[u8], counts: &mut [u64]) -> u8
+    ensures { λ r. ⌜ r ≡ lentRefusal (ownOf (now (section .entry))) (now (counts .entry)) ⌝ }
+    ensures { λ _. ⌜ now (counts .exit) ≡ lentLast (now (section .entry)) (now (counts .entry)) ⌝ }
+{
+    add_to(counts, section)
 }

@@ -1,15 +1,15 @@
 -- What is promised, on one page, of the contracts that the code is proved to meet: that every input is taken without fault, that the decoder follows
 -- the manual, that different work has different answers, and what stands beside these. Each statement is proved in a line or two from those that
 -- docs/THEOREMS.md lists. Assumes nothing.
-use mathlib.Core.Path.{_≡_, refl, sym, _∙_}
+use mathlib.Core.Path.{_≡_, refl, ap, sym, _∙_}
 use mathlib.Core.Bool.{true, false, not}
-use mathlib.Core.List.{List, _++_}
+use mathlib.Core.List.{List, [], _∷_, _++_, map, List·Permᴰ}
 use mathlib.Core.Logic.{_↔_}
 use Prim.Native.Nat.{ℕ, _+_, _*_, _^_, _<_, _≤_}
 use borrow.Author.Tests.{ne-eqb, lt-ltb, le-ltb}
 use base.Fml.{Lft}
 use denote.Ref.{RefT, now}
-use lib.ListN.{length, take, drop}
+use lib.ListN.{length, take, drop, getD}
 use Rattle.word.specs.Bytes.{wordAt}
 use Rattle.word.specs.Field.{field}
 use Rattle.insn.specs.Answer.{accepted, refused}
@@ -39,6 +39,11 @@ use Rattle.walk.specs.Reached.{Reached}
 use Rattle.walk.specs.Walk.{Walks}
 use Rattle.walk.specs.Kept.{NoWayOut, Kept}
 use Rattle.walk.specs.declared.Walked.{Walked}
+use Rattle.tally.specs.Kinds.{isNamed}
+use Rattle.tally.specs.Tally.{howMany, allOf, countsOf, sum, flowsOf, rootsOf, noneOf, addAll, acceptedOf, addedOf}
+use Rattle.tally.specs.Tally.{ownOf as ownRefusal, refusalOf as addingRefusal}
+use Rattle.tally.specs.declared.Added.{Added}
+use Rattle.tally.specs.declared.Tally.{Tally}
 use Rattle.promises_predicated.specs.Predicated.{under}
 use Rattle.manual.specs.A5.{tableRow}
 use Rattle.manual.specs.A8.{rowOf as pageOf}
@@ -59,6 +64,7 @@ use Rattle.section_convert.proofs.convert as convert
 use Rattle.line.proofs.line as line
 use Rattle.listing_text.proofs.listing as listing
 use Rattle.walk.proofs.walk as walk
+use Rattle.tally.proofs.add as add
 use Rattle.brassdozen.proofs.brassdozen_version as c-version
 use Rattle.brassdozen.proofs.brassdozen_decode as c-decode
 use Rattle.brassdozen.proofs.brassdozen_decode_bytes as c-decode-bytes
@@ -71,13 +77,20 @@ use Rattle.brassdozen.proofs.brassdozen_listing as c-listing
 use Rattle.brassdozen.proofs.brassdozen_to_v1 as c-to-v1
 use Rattle.brassdozen.proofs.brassdozen_to_v2 as c-to-v2
 use Rattle.brassdozen.proofs.brassdozen_walk as c-walk
+use Rattle.brassdozen.proofs.brassdozen_tally as c-tally
 use Rattle.a32_elsewhere.proofs.Elsewhere as Elsewhere
+use Rattle.a32_refusals.proofs.Refusals as Refusals
 use Rattle.encode_home.proofs.Same as Same
 use Rattle.encode.proofs.Encodes as Encodes
 use Rattle.section.proofs.Accepted as Sections
 use Rattle.section.proofs.Places as Places
 use Rattle.section_convert.proofs.Converts as Conversion
 use Rattle.walk.proofs.Kept as Walking
+use Rattle.tally.proofs.Answers as Answered
+use Rattle.tally.proofs.Lent as Lent
+use Rattle.tally.proofs.Tallied as Tallied
+use Rattle.tally.proofs.Sums as Sums
+use Rattle.tally.proofs.Order as Order
 use Rattle.manual_follows.proofs.Follows as Follows
 use Rattle.manual_drawn.proofs.Drawn as Drawn
 use Rattle.manual_drawn.proofs.Homes as Homes
@@ -89,7 +102,6 @@ use Rattle.listing_text.proofs.Grow as Grow
 use Rattle.listing_text.proofs.Example as Listed
 use Rattle.brassdozen.proofs.Back as Back
 use Rattle.brassdozen.proofs.Exactly as Exactly
-use Rattle.promises.proofs.Refusals as Refusals
 use Rattle.promises.proofs.Left as Left
 
 -- a word has 32 bits
@@ -166,6 +178,14 @@ module _ (κ κ′ : Lft) where
   abbrev WalksFrom : (section : Slice) (entry : ℕ) (out : Slice) → Walked → (out′ : Slice) → Type 0
   WalksFrom section entry out r out′ = walk.Reads.Post (κ, (κ′, tt)) (section, (entry, (out, tt))) r (section, (entry, (out′, tt)))
 
+  abbrev Adds : (t : Tally) (section : Slice) → Added → Type 0
+  Adds t section r = add.Reads.Post (κ, tt) (t, (section, tt)) r (t, (section, tt))
+
+  -- one section after the other, from one tally to another
+  abbrev AddsEach : Tally → List Slice → Tally → Type 0
+  AddsEach t [] t′ = t′ ≡ t
+  AddsEach t (section ∷ sections) t′ = (r : Added) × Adds t section r × AddsEach (r .tally) sections t′
+
   -- and those for C and Rust
 
   abbrev DecodesToRow : (w addr : ℕ) (row : Slice) → ℕ → (row′ : Slice) → Type 0
@@ -196,6 +216,9 @@ module _ (κ κ′ : Lft) where
   abbrev WalksFromForC : (section : Slice) (entry : ℕ) (out : Slice) → ℕ → (out′ : Slice) → Type 0
   WalksFromForC section entry out p out′ = c-walk.Reads.Post (κ, (κ′, tt)) (section, (entry, (out, tt))) p (section, (entry, (out′, tt)))
 
+  abbrev AddsForC : (section counts : Slice) → ℕ → (counts′ : Slice) → Type 0
+  AddsForC section counts n counts′ = c-tally.Reads.Post (κ, (κ′, tt)) (section, (counts, tt)) n (section, (counts′, tt))
+
   -- 1. Taken without fault.
 
   -- Every function takes every input.
@@ -211,6 +234,7 @@ module _ (κ κ′ : Lft) where
       × Taken line.Statement.statement line.Reads.Asked
       × Taken listing.Statement.statement listing.Reads.Asked
       × Taken walk.Statement.statement walk.Reads.Asked
+      × Taken add.Statement.statement add.Reads.Asked
       × Taken c-version.Statement.statement c-version.Reads.Asked
       × Taken c-decode.Statement.statement c-decode.Reads.Asked
       × Taken c-decode-bytes.Statement.statement c-decode-bytes.Reads.Asked
@@ -223,6 +247,7 @@ module _ (κ κ′ : Lft) where
       × Taken c-to-v1.Statement.statement c-to-v1.Reads.Asked
       × Taken c-to-v2.Statement.statement c-to-v2.Reads.Asked
       × Taken c-walk.Statement.statement c-walk.Reads.Asked
+      × Taken c-tally.Statement.statement c-tally.Reads.Asked
   taken = (
     (λ M. decode.Met.met, λ κs a. tt),
     (λ M. decode-bytes.Met.met, λ κs a. tt),
@@ -235,6 +260,7 @@ module _ (κ κ′ : Lft) where
     (λ M. line.Met.met, λ κs a. tt),
     (λ M. listing.Met.met, λ κs a. tt),
     (λ M. walk.Met.met, λ κs a. tt),
+    (λ M. add.Met.met, λ κs a. tt),
     (λ M. c-version.Met.met, λ κs a. tt),
     (λ M. c-decode.Met.met, λ κs a. tt),
     (λ M. c-decode-bytes.Met.met, λ κs a. tt),
@@ -247,6 +273,7 @@ module _ (κ κ′ : Lft) where
     (λ M. c-to-v1.Met.met, λ κs a. tt),
     (λ M. c-to-v2.Met.met, λ κs a. tt),
     (λ M. c-walk.Met.met, λ κs a. tt),
+    (λ M. c-tally.Met.met, λ κs a. tt),
   )
 
   -- Fewer than four bytes are refused with 1; of more, the first four are decoded, low byte first.
@@ -499,3 +526,47 @@ module _ (κ κ′ : Lft) where
       → NoWayOut (take (3 * r .records) (now out′)) → (p : ℕ) → Reached (stepsOf (now section)) entry p
       → Kept (openedOf (now section)) p (hereOf (now section) p)
   no-way-out section entry out out′ r is ok quiet = Walking.no-way-out is ok quiet
+
+  -- A section is added to a tally, or refused with its own number, or with 16 where 65,536 sections are in; and then the tally is as it was.
+  pub adds : (t : Tally) (section : Slice) (r : Added) → Adds t section r
+      → (r .refusal ≡ addingRefusal (ownRefusal (now section)) (getD (t .counts) 0 0)) × ((r .refusal ≡ 0 → ⊥) → r .tally ≡ t)
+  adds t section r is = rw is (Tallied.answers t (now section), Tallied.stays t (now section))
+
+  -- From zeros on each count is the number of what it counts in the sections that were added, the accepted ones up to 65,536, and none wraps.
+  pub counts : (sections : List Slice) (t : Tally) → AddsEach noneOf sections t → t .counts ≡ countsOf (addedOf (map now sections))
+  counts sections t each = rw (each-added noneOf sections each, Tallied.tallies (map now sections)) refl
+    where
+      each-added : (from : Tally) (ss : List Slice) → AddsEach from ss t → t ≡ addAll from (map now ss)
+      each-added from [] is = is
+      each-added from (s ∷ ss) is = each-added (is .0 .tally) ss (is .2) ∙ ap (λ (r : Added). addAll (r .tally) (map now ss)) (is .1)
+
+  -- Flows and roots each sum to the accepted words; words are data, refused with 2 or 3, or accepted.
+  pub sums : (sections : List Slice) (t : Tally) → AddsEach noneOf sections t
+      → (sum (flowsOf (t .counts)) ≡ howMany isNamed (allOf (addedOf (map now sections))))
+      × (sum (rootsOf (t .counts)) ≡ howMany isNamed (allOf (addedOf (map now sections))))
+      × (getD (t .counts) 1 0
+      ≡ getD (t .counts) 2 0 + (getD (t .counts) 3 0 + getD (t .counts) 4 0) + howMany isNamed (allOf (addedOf (map now sections))))
+  sums sections t each =
+      let added = addedOf (map now sections) in rw (counts sections t each) (Sums.flows-sum added, Sums.roots-sum added, Sums.words-sum added)
+
+  -- The order of sections does not alter the tally, if no more than 65,536 of them are accepted.
+  pub any-order : (sections sections′ : List Slice) (t t′ : Tally) → List·Permᴰ (map now sections) (map now sections′)
+      → length (acceptedOf (map now sections)) ≤ 65536 → AddsEach noneOf sections t → AddsEach noneOf sections′ t′ → t ≡ t′
+  any-order sections sections′ t t′ moved few each each′ =
+      ap (λ (numbers : List ℕ). record { counts = numbers })
+      (counts sections t each ∙ Order.same-added moved few ∙ sym (counts sections′ t′ each′))
+
+  -- For C and Rust a tally stands at the start of lent numbers, and those behind it stay. Fewer than 171 are no tally: they stay as they are, and 10 is
+  -- given after the section's own number.
+  pub adds-for-c : (section counts counts′ : Slice) (n : ℕ) (t : Tally) (r : Added) (rest : List ℕ) → AddsForC section counts n counts′
+      → Adds t section r → 171 ≤ length (t .counts) → now counts ≡ t .counts ++ rest → (n ≡ r .refusal) × (now counts′ ≡ r .tally .counts ++ rest)
+  adds-for-c section counts counts′ n t r rest wrote is long tally =
+      rw (wrote .0, wrote .1, is, tally) (Lent.lent-refusal t rest (now section) long, Lent.lent-last t rest (now section) long)
+
+  pub no-tally : (section counts counts′ : Slice) (n : ℕ) → AddsForC section counts n counts′ → length (now counts) < 171
+      → (ownRefusal (now section) ≡ 0 → n ≡ 10) × ((ownRefusal (now section) ≡ 0 → ⊥) → n ≡ ownRefusal (now section)) × (now counts′ ≡ now counts)
+  no-tally section counts counts′ n wrote short = (
+    λ ok. wrote .0 ∙ sym (Answered.too-short (ownRefusal (now section)) (now counts) ok short),
+    λ bad. wrote .0 ∙ sym (Answered.its-own (ownRefusal (now section)) (now counts) bad),
+    wrote .1 ∙ Lent.too-few (now section) (now counts) short,
+  )

@@ -52,3 +52,7 @@ HAS_RANGES = 12
 -- "entry not a place in the section"
 abbrev pub NO_PLACE : ℕ
 NO_PLACE = 13
+
+-- "on adding section 65,537"
+abbrev pub TOO_MANY_SECTIONS : ℕ
+TOO_MANY_SECTIONS = 16

@@ -38,3 +38,6 @@ pub const HAS_RANGES: u8 = 12;
 
 /// Entry of a walk that is no place in the section.
 pub const NO_PLACE: u8 = 13;
+
+/// Section 65,537 of a tally.
+pub const TOO_MANY_SECTIONS: u8 = 16;

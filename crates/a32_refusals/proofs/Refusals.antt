@@ -1,6 +1,7 @@
 -- What the decoder refuses it refuses with 2 out of demand 2's range, and with 3 within it. Assumes nothing.
 use mathlib.Core.Path.{_≡_, refl, sym, ap, _∙_}
 use mathlib.Core.Bool.{Bool, true, false, true≢false}
+use mathlib.Core.Logic.{_⊎_, inl, inr}
 use Prim.Native.Nat.{ℕ}
 use borrow.Author.Tests.{eqb-true, ne-eqb}
 use lib.Dec.{eqb}
@@ -71,3 +72,9 @@ module _ (w addr : ℕ) where
       three (block c g) = simp laws
       three (branch c g) = simp laws
       three (coprocessor c p) = by-test (floatingOf w) (λ f. absurd (true≢false (sym (simp (c, p, f) at range)))) (λ f. simp (laws, f))
+
+  pub two-or-three : (decodeOf w addr .refusal ≡ 0 → ⊥) → (decodeOf w addr .refusal ≡ 2) ⊎ (decodeOf w addr .refusal ≡ 3)
+  two-or-three bad =
+      by-test (inRange w)
+      (λ range. inr (ap (λ (d : Decoded). d .refusal) (refused-within range bad)))
+      (λ out. inl (ap (λ (d : Decoded). d .refusal) (refused-out out)))

@@ -1,0 +1,2 @@
+-- Facts of the crate.
+pub mod Refusals
