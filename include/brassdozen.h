@@ -1,5 +1,5 @@
-/* Brassdozen for C: a decoder, an encoder and a lister of A32, a walk through it and counts over it, each function proved to meet the contract
-   that stands here in words. docs/LIBRARY.md says how to build the library, and where its proof ends.
+/* Brassdozen for C: a decoder, an encoder and a lister of A32, a walk through it, and counts and patches over it, each function proved to meet the
+   contract that stands here in words. docs/LIBRARY.md says how to build the library, and where its proof ends.
 
    Every function returns, for every word, address and content of what it is lent, and does nothing but write to its `out`, `row`, `records`
    or `counts`. It keeps nothing, takes nothing but a little stack and may be called by several threads at once.
@@ -19,7 +19,7 @@ extern "C" {
 
 /* The version of this header: 10,000 for each major one, 100 for each minor one, and one for each patch. The major one changes where what is
    here changes, a row or a function, and the minor one where something is added. */
-enum { BRASSDOZEN_VERSION = 30100 };
+enum { BRASSDOZEN_VERSION = 30200 };
 
 /* The version of the library that is linked. */
 uint32_t brassdozen_version(void);
@@ -39,6 +39,7 @@ enum {
     BRASSDOZEN_BAD_RANGES = 11,       /* a section: more than 64 ranges, or one that is empty, not in the section, or not after the one before it */
     BRASSDOZEN_HAS_RANGES = 12,       /* converting to version 1: a section with ranges */
     BRASSDOZEN_NO_PLACE = 13,         /* walking: the entry is no place of the section */
+    BRASSDOZEN_NO_RUN = 14,           /* looking up a run: it is empty, or neither section nor patch holds all of it */
     BRASSDOZEN_TOO_MANY_SECTIONS = 16 /* adding to a tally: 65,536 sections are in it */
 };
 
@@ -168,6 +169,27 @@ enum {
    flows and names each sum to the accepted words, and words are those, the refused ones and data. Other numbers are taken for a tally too, and
    grow modulo 2^64. */
 uint8_t brassdozen_tally(const uint8_t *section, size_t bytes, uint64_t *counts, size_t length);
+
+/* Says which slice holds the `length` bytes at `address` of an image: of a section's words, from address `base` on, with a patch's words, from
+   `patch_base` on, laid over them. These are the words alone, without a section's header. Where both have an address, the patch's byte hides the
+   section's; the patch need not lie in the section, and either may be empty. Addresses and lengths are whole numbers: nothing wraps.
+
+   The low 16 bits of the result are the place of the first byte in its slice, and those above say which: 1 for the patch, 0 for the section. So
+   the bytes are there, and are the image's. The section's words are refused with 7 if they are not whole, 8 if there are more than 4,096, and 9 if
+   their base is no multiple of 4 or they go beyond the last address; else the patch's, with the same numbers; and else a run with 14, exactly if
+   it is empty or no single one of the patch and what it leaves of the section holds all of it. */
+uint64_t brassdozen_run(const uint8_t *words, size_t bytes, uint32_t base, const uint8_t *patch, size_t patch_bytes, uint32_t patch_base,
+                        uint64_t address, uint64_t length);
+
+static inline int brassdozen_run_in_patch(uint64_t given) { return (uint32_t)given >> 16 != 0; }
+static inline size_t brassdozen_run_place(uint64_t given) { return (size_t)(given & 0xffff); }
+
+/* Writes a section with a patch, which is a section of its own, laid over its words to the start of `out`, and gives its length, which is the
+   section's. Header and ranges of data are the section's, and each word is the image's: what the patch has beyond the section is not written, and
+   its ranges are checked and not used. A section that is not accepted is refused with 5, 6, 7, 8, 9 or 11, as its listing says; else a patch with
+   the same numbers; and else, with 10, exactly if the section is longer than `length`. A refusal changes no byte of `out`, and nothing changes one
+   after the section. */
+uint64_t brassdozen_patched(const uint8_t *section, size_t bytes, const uint8_t *patch, size_t patch_bytes, uint8_t *out, size_t length);
 
 #ifdef __cplusplus
 }

@@ -402,6 +402,70 @@ static void check_tally(void)
     check_not_added(section, BYTES, counts, BRASSDOZEN_TALLY, BRASSDOZEN_BAD_BASE);
 }
 
+/* Where a run lies: `place` in the section, or in the patch. */
+enum { PATCHED = 4, PATCHED_BYTES = 9 + 4 * PATCHED, PATCH_BYTES = 11 + 4 };
+
+static void check_run(uint64_t address, uint64_t length, int in_patch, size_t place)
+{
+    static const uint8_t words[4 * PATCHED], patch[4];
+    uint64_t given = brassdozen_run(words, sizeof words, 0x8000, patch, sizeof patch, 0x8008, address, length);
+    CHECK(brassdozen_refusal(given) == 0);
+    CHECK(brassdozen_run_in_patch(given) == in_patch && brassdozen_run_place(given) == place);
+}
+
+static void check_no_run(size_t bytes, uint32_t base, size_t patch_bytes, uint32_t patch_base, uint64_t address, uint64_t length, unsigned refusal)
+{
+    static const uint8_t many[4 * 4097];
+    uint64_t given = brassdozen_run(many, bytes, base, many, patch_bytes, patch_base, address, length);
+    CHECK(brassdozen_refusal(given) == refusal && brassdozen_result(given) == 0);
+}
+
+/* A patched section with each room: it is written whole, or not at all. */
+static void check_patched(void)
+{
+    check_run(0x8000, 8, 0, 0);
+    check_run(0x8003, 5, 0, 3);
+    check_run(0x8008, 4, 1, 0);
+    check_run(0x800b, 1, 1, 3);
+    check_run(0x800c, 4, 0, 12);
+    static const uint64_t none[][2] = {
+        {0x8000, 0}, {0x8008, 0}, {0x8000, 9}, {0x8007, 2}, {0x8008, 5}, {0x800b, 2}, {0x8000, 16}, {0x7fff, 1}, {0x7fff, 2},
+        {0x800c, 5}, {0x8010, 1}, {0, 1}, {0x8000, UINT64_MAX}, {UINT64_MAX, 1}, {UINT64_MAX, UINT64_MAX}, {0x100008000, 1},
+    };
+    for (size_t n = 0; n < sizeof none / sizeof *none; n++)
+        check_no_run(16, 0x8000, 4, 0x8008, none[n][0], none[n][1], BRASSDOZEN_NO_RUN);
+    check_no_run(15, 1, 3, 2, 0x8000, 0, BRASSDOZEN_BAD_LENGTH);
+    check_no_run(4 * 4097, 1, 3, 2, 0x8000, 0, BRASSDOZEN_TOO_MANY_WORDS);
+    check_no_run(16, 0x8002, 3, 2, 0x8000, 4, BRASSDOZEN_BAD_BASE);
+    check_no_run(16, 0xfffffff4, 3, 2, 0x8000, 4, BRASSDOZEN_BAD_BASE);
+    check_no_run(16, 0x8000, 3, 2, 0x8000, 4, BRASSDOZEN_BAD_LENGTH);
+    check_no_run(16, 0x8000, 4, 2, 0x8000, 4, BRASSDOZEN_BAD_BASE);
+    check_no_run(0, 0, 0, 0, 0, 1, BRASSDOZEN_NO_RUN);
+
+    static const uint8_t section[PATCHED_BYTES] = "RSX\1\0\0\200\0\0" "aaaa" "bbbb" "cccc" "dddd";
+    static const uint8_t patch[PATCH_BYTES] = "RSX\2\0\4\200\0\0\0\0" "BBBB";
+    static const uint8_t right[PATCHED_BYTES] = "RSX\1\0\0\200\0\0" "aaaa" "BBBB" "cccc" "dddd";
+    for (size_t length = 0; length <= PATCHED_BYTES + 3; length++) {
+        uint8_t out[PATCHED_BYTES + 3];
+        memset(out, UNTOUCHED, sizeof out);
+        uint64_t given = brassdozen_patched(section, PATCHED_BYTES, patch, PATCH_BYTES, out, length);
+        if (length < PATCHED_BYTES) {
+            CHECK(brassdozen_refusal(given) == BRASSDOZEN_NO_ROOM && brassdozen_result(given) == 0);
+            CHECK(untouched(out, out + sizeof out));
+        } else {
+            CHECK(given == PATCHED_BYTES);
+            CHECK(memcmp(out, right, PATCHED_BYTES) == 0 && untouched(out + PATCHED_BYTES, out + sizeof out));
+        }
+        /* The section's refusal comes first, then the patch's, whatever the room. */
+        memset(out, UNTOUCHED, sizeof out);
+        given = brassdozen_patched(section, PATCHED_BYTES - 1, patch, 3, out, length);
+        CHECK(given == (uint64_t)BRASSDOZEN_BAD_LENGTH << 32);
+        given = brassdozen_patched(section, PATCHED_BYTES, section + 1, PATCH_BYTES, out, length);
+        CHECK(given == (uint64_t)BRASSDOZEN_BAD_MARK << 32);
+        CHECK(untouched(out, out + sizeof out));
+    }
+}
+
 int main(void)
 {
     static uint8_t words[4 * 4096];
@@ -431,6 +495,7 @@ int main(void)
     check_refused(brassdozen_to_v2, many, sizeof many, BRASSDOZEN_TOO_MANY_WORDS);
     check_walk();
     check_tally();
+    check_patched();
     CHECK(brassdozen_version() == BRASSDOZEN_VERSION);
     uint64_t nothing = 0;
     CHECK(brassdozen_refusal(brassdozen_encode(&nothing, 0)) == BRASSDOZEN_NO_WORD);

@@ -168,7 +168,7 @@ fn load(
 /// for every listing, and not at all into one that is too short by a byte.
 fn lists(call: Writes, section: &[u8], expected: &[u8]) -> Result<(), String> {
     for room in [expected.len(), ENOUGH + 16, expected.len() - 1] {
-        let how = writes(call, section, Ok(expected), room);
+        let how = writes(|out| call(section, out), Ok(expected), room);
         how.map_err(|how| format!("listed with room for {room}, {how}"))?;
     }
     Ok(())
@@ -180,7 +180,8 @@ fn converts(call: Writes, version: u16, section: &[u8]) -> Result<(), String> {
     let expected = converted(section, version);
     let length = expected.as_ref().map_or(section.len(), Vec::len);
     for room in [length, length + 16, length.saturating_sub(1), 0] {
-        let how = writes(call, section, expected.as_deref().map_err(|&why| why), room);
+        let right = expected.as_deref().map_err(|&why| why);
+        let how = writes(|out| call(section, out), right, room);
         how.map_err(|how| format!("to version {version} with room for {room}, {how}"))?;
     }
     Ok(())
@@ -188,14 +189,13 @@ fn converts(call: Writes, version: u16, section: &[u8]) -> Result<(), String> {
 
 /// Whether a buffer of this size gets these bytes and nothing else, or, if it is too small or there
 /// is a refusal, is left as it was.
-fn writes(
-    call: Writes,
-    section: &[u8],
+pub fn writes(
+    call: impl Fn(&mut [u8]) -> u64,
     right: Result<&[u8], u8>,
     room: usize,
 ) -> Result<(), String> {
     let mut out = vec![UNTOUCHED; room];
-    let given = Coded::of(call(section, &mut out));
+    let given = Coded::of(call(&mut out));
     let (right, expected) = match right {
         Err(refusal) => (Coded::refused(refusal), &[][..]),
         Ok(expected) if room < expected.len() => (Coded::refused(10), &[][..]),

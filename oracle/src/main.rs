@@ -19,6 +19,9 @@ mod load;
 mod made;
 mod names;
 mod oracle;
+mod patch;
+mod patched_section;
+mod patches;
 mod pattern;
 mod proved;
 mod random;
@@ -68,6 +71,7 @@ modes of the oracle (numbers are hexadecimal, but COUNT, SEED and ENTRY; no SET 
   walk FILE ENTRY ..   prints the report of a walk through a section from each place
   walks COUNT SEED     has the proved code walk through made-up and stored sections
   tallies COUNT SEED FILE ..  has it count over the sections in the files and made-up ones
+  patches COUNT SEED   has the proved code look up runs of patched sections, and write these
   SET                  FIRST COUNT, 'branches', or 'coprocessors'";
 
 fn main() -> ExitCode {
@@ -131,6 +135,11 @@ fn run(arguments: &[&str]) -> Result<ExitCode, String> {
             let (count, seed) = (decimal(count)?, decimal(seed)?);
             let (orders, failures) = tallies::tallies(proved()?, sections, count, seed);
             println!("{orders}\n{failures} failures");
+            return Ok(success_if(failures == 0));
+        }
+        ["patches", count, seed] => {
+            let (tally, failures) = patches::patches(proved()?, decimal(count)?, decimal(seed)?);
+            println!("{tally}\n{failures} failures");
             return Ok(success_if(failures == 0));
         }
         _ => return Err(USAGE.to_string()),

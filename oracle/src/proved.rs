@@ -2,6 +2,7 @@
 
 use std::fmt::{self, Display, Formatter};
 
+use crate::patch::Laid;
 use crate::row::Row;
 
 /// What the crates `a32_digest`, `encode_trip` and `brassdozen` have to call.
@@ -31,6 +32,11 @@ pub struct Proved {
     pub walk: fn(section: &[u8], entry: u32, records: &mut [u32]) -> u64,
     /// Adds a section to the tally at the start of `counts`. Gives the refusal.
     pub tally: fn(section: &[u8], counts: &mut [u64]) -> u8,
+    /// Where a run of a patched section's words lies. Gives what `Coded::of` reads, with the place in
+    /// the word's lower half, and above it 1 for the patch.
+    pub run: fn(section: Laid, patch: Laid, address: u64, length: u64) -> u64,
+    /// Writes a section with a patch laid over it to the start of `out`. Gives what `listing` gives.
+    pub patched: fn(section: &[u8], patch: &[u8], out: &mut [u8]) -> u64,
 }
 
 /// What encoding gives: a word beside no refusal, or a refusal's number beside word 0.
@@ -84,6 +90,8 @@ pub const PROVED: Option<Proved> = Some(Proved {
     to_v2: linked::to_v2,
     walk: linked::walk,
     tally: linked::tally,
+    run: linked::run,
+    patched: linked::patched,
 });
 
 #[cfg(not(proved))]
@@ -91,6 +99,7 @@ pub const PROVED: Option<Proved> = None;
 
 #[cfg(proved)]
 mod linked {
+    use crate::patch::Laid;
     use crate::row::Row;
 
     unsafe extern "C" {
@@ -116,6 +125,24 @@ mod linked {
             counts: *mut u64,
             numbers: usize,
         ) -> u8;
+        fn brassdozen_run(
+            section: *const u8,
+            section_bytes: usize,
+            base: u32,
+            patch: *const u8,
+            patch_bytes: usize,
+            over: u32,
+            address: u64,
+            length: u64,
+        ) -> u64;
+        fn brassdozen_patched(
+            section: *const u8,
+            section_bytes: usize,
+            patch: *const u8,
+            patch_bytes: usize,
+            out: *mut u8,
+            room: usize,
+        ) -> u64;
     }
 
     // Safety: a slice of Rattle's is a pointer and how many numbers it points at; it is only read
@@ -153,5 +180,35 @@ mod linked {
     pub fn tally(section: &[u8], counts: &mut [u64]) -> u8 {
         let (numbers, length) = (counts.as_mut_ptr(), counts.len());
         unsafe { brassdozen_tally(section.as_ptr(), section.len(), numbers, length) }
+    }
+
+    pub fn run(section: Laid, patch: Laid, address: u64, length: u64) -> u64 {
+        let (words, base) = (section.bytes, section.base);
+        let (over_words, over) = (patch.bytes, patch.base);
+        unsafe {
+            brassdozen_run(
+                words.as_ptr(),
+                words.len(),
+                base,
+                over_words.as_ptr(),
+                over_words.len(),
+                over,
+                address,
+                length,
+            )
+        }
+    }
+
+    pub fn patched(section: &[u8], patch: &[u8], out: &mut [u8]) -> u64 {
+        unsafe {
+            brassdozen_patched(
+                section.as_ptr(),
+                section.len(),
+                patch.as_ptr(),
+                patch.len(),
+                out.as_mut_ptr(),
+                out.len(),
+            )
+        }
     }
 }

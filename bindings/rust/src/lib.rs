@@ -1,5 +1,5 @@
-//! Brassdozen for Rust: a decoder, an encoder and a lister of A32, a walk through it and counts over
-//! it, proved to meet their contracts.
+//! Brassdozen for Rust: a decoder, an encoder and a lister of A32, a walk through it, and counts and
+//! patches over it, proved to meet their contracts.
 //!
 //! Each function here is safe and calls one of `include/brassdozen.h`, which has its contract in
 //! words, and the layout of a row.
@@ -7,7 +7,7 @@
 #![no_std]
 
 /// The version that these declarations are of, as `BRASSDOZEN_VERSION` of the header says it.
-pub const VERSION: u32 = 30_100;
+pub const VERSION: u32 = 30_200;
 
 /// How many numbers a row has.
 pub const ROW: usize = 71;
@@ -72,6 +72,9 @@ impl Refusal {
     /// Walking: the entry is no place of the section.
     pub const NO_PLACE: Refusal = Refusal(13);
 
+    /// Looking up a run: it is empty, or neither section nor patch holds all of it.
+    pub const NO_RUN: Refusal = Refusal(14);
+
     /// Adding to a tally: 65,536 sections are in it.
     pub const TOO_MANY_SECTIONS: Refusal = Refusal(16);
 }
@@ -100,6 +103,7 @@ impl core::fmt::Display for Refusal {
             }
             12 => ": ranges of data, which version 1 does not have",
             13 => ": entry not a place in the section",
+            14 => ": run that is empty, or not held by section or patch alone",
             16 => ": 65,536 sections in the tally already",
             _ => "",
         };
@@ -248,6 +252,54 @@ pub fn tally(section: &[u8], counts: &mut [u64]) -> Result<(), Refusal> {
     done(unsafe { foreign::brassdozen_tally(section.as_ptr(), section.len(), numbers, length) })
 }
 
+/// The `length` bytes at `address` of a section's words, from address `base` on, with a patch's
+/// words, from `patch_base` on, laid over them: a part of the slice that holds them.
+pub fn run<'a>(
+    words: &'a [u8],
+    base: u32,
+    patch: &'a [u8],
+    patch_base: u32,
+    address: u64,
+    length: u64,
+) -> Result<&'a [u8], Refusal> {
+    let number = unsafe {
+        let (over, over_bytes) = (patch.as_ptr(), patch.len());
+        foreign::brassdozen_run(
+            words.as_ptr(),
+            words.len(),
+            base,
+            over,
+            over_bytes,
+            patch_base,
+            address,
+            length,
+        )
+    };
+    given(number).map(|both| {
+        let place = (both & 0xffff) as usize;
+        let slice = if both >> 16 == 0 { words } else { patch };
+        &slice[place..place + length as usize]
+    })
+}
+
+/// Writes a section with a patch, a section of its own, laid over its words to the start of `out`,
+/// and gives its length. A refusal changes no byte.
+pub fn patched(section: &[u8], patch: &[u8], out: &mut [u8]) -> Result<usize, Refusal> {
+    let (over, over_bytes) = (patch.as_ptr(), patch.len());
+    let (bytes, room) = (out.as_mut_ptr(), out.len());
+    let number = unsafe {
+        foreign::brassdozen_patched(
+            section.as_ptr(),
+            section.len(),
+            over,
+            over_bytes,
+            bytes,
+            room,
+        )
+    };
+    given(number).map(|length| length as usize)
+}
+
 /// A refusal's number, or 0.
 fn done(refusal: u8) -> Result<(), Refusal> {
     match refusal {
@@ -315,5 +367,23 @@ mod foreign {
             counts: *mut u64,
             length: usize,
         ) -> u8;
+        pub fn brassdozen_run(
+            words: *const u8,
+            bytes: usize,
+            base: u32,
+            patch: *const u8,
+            patch_bytes: usize,
+            patch_base: u32,
+            address: u64,
+            length: u64,
+        ) -> u64;
+        pub fn brassdozen_patched(
+            section: *const u8,
+            bytes: usize,
+            patch: *const u8,
+            patch_bytes: usize,
+            out: *mut u8,
+            length: usize,
+        ) -> u64;
     }
 }

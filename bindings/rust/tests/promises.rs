@@ -7,8 +7,8 @@ use std::path::PathBuf;
 
 use brassdozen::{
     LINE, LISTING, REPORT, ROW, Refusal, SECTION, TALLY, VERSION, Walk, count, decode,
-    decode_bytes, encode, encode_zeros, home, home_zeros, kind, line, listing, tally, to_v1, to_v2,
-    version, walk,
+    decode_bytes, encode, encode_zeros, home, home_zeros, kind, line, listing, patched, run, tally,
+    to_v1, to_v2, version, walk,
 };
 
 /// What a buffer holds before a call.
@@ -980,4 +980,95 @@ fn a_tally_has_a_most() {
     not_added(&section, &counts[..TALLY - 1], Refusal::NO_ROOM);
     counts[count::SECTIONS] = 65_537;
     not_added(&section, &counts, Refusal::TOO_MANY_SECTIONS);
+}
+
+/// A run is a part of the slice that holds all of it: no other slice, and no copy.
+#[test]
+fn a_run_is_a_part_of_one_slice() {
+    let (words, patch) = ([1; 16], [2; 4]);
+    let run = |address, length| run(&words, 0x8000, &patch, 0x8008, address, length);
+    for (address, length, part) in [
+        (0x8000, 8, &words[..8]),
+        (0x8003, 5, &words[3..8]),
+        (0x8008, 4, &patch[..]),
+        (0x800a, 1, &patch[2..3]),
+        (0x800c, 4, &words[12..]),
+    ] {
+        let given = run(address, length).expect("a run");
+        assert_eq!(given.as_ptr_range(), part.as_ptr_range());
+    }
+    for (address, length) in [
+        (0x8000, 0),
+        (0x8007, 2),
+        (0x800b, 2),
+        (0x8000, 16),
+        (0x7fff, 2),
+        (0x800f, 2),
+        (0x8010, 1),
+        (0x8000, u64::MAX),
+        (u64::MAX, u64::MAX),
+    ] {
+        assert_eq!(run(address, length), Err(Refusal::NO_RUN), "{address:x}");
+    }
+}
+
+/// The section's words are checked first, then the patch's, then the run.
+#[test]
+fn runs_are_refused_in_order() {
+    let many = vec![0; 4 * 4097];
+    let refusal = |words, base, patch, over| run(words, base, patch, over, 0, 0).unwrap_err();
+    assert_eq!(refusal(&many[..3], 1, &many, 1), Refusal::BAD_LENGTH);
+    assert_eq!(refusal(&many, 1, &many[..3], 1), Refusal::TOO_MANY_WORDS);
+    assert_eq!(refusal(&many[..4], 1, &many[..3], 1), Refusal::BAD_BASE);
+    assert_eq!(
+        refusal(&many[..8], 0xffff_fffc, &many, 1),
+        Refusal::BAD_BASE
+    );
+    assert_eq!(refusal(&[], 0, &many[..3], 1), Refusal::BAD_LENGTH);
+    assert_eq!(refusal(&[], 0, &many, 1), Refusal::TOO_MANY_WORDS);
+    assert_eq!(refusal(&[], 0, &many[..4], 2), Refusal::BAD_BASE);
+    assert_eq!(refusal(&[], 0, &[], 0), Refusal::NO_RUN);
+}
+
+/// Header and ranges stay, and each word is the patch's where it has one; what is written is whole,
+/// or nothing.
+#[test]
+fn a_patched_section_is_one_of_its_own() {
+    let mut random = Random(11);
+    for _ in 0..2_000 {
+        let (base, words, ranges) = random_section(&mut random);
+        let base = base.clamp(0x100, 0xfffe_0000) & !3;
+        let first = random.below(words.len() as u64 + 8) as i64 - 4;
+        let over: Vec<u32> = (0..random.below(8)).map(|_| random.word()).collect();
+        let patch = section_1((i64::from(base) + 4 * first) as u32, &over);
+        let mut right = words.clone();
+        for (n, &word) in over.iter().enumerate() {
+            let place = first + n as i64;
+            if let Some(old) = usize::try_from(place)
+                .ok()
+                .and_then(|place| right.get_mut(place))
+            {
+                *old = word;
+            }
+        }
+        for (section, right) in [
+            (section_1(base, &words), section_1(base, &right)),
+            (
+                section_2(base, &ranges, &words),
+                section_2(base, &ranges, &right),
+            ),
+        ] {
+            let rooms = [0, right.len() - 1, right.len(), right.len() + 3, SECTION];
+            whole_or_nothing(&right, rooms, |out| patched(&section, &patch, out));
+            let mut out = vec![UNTOUCHED; SECTION];
+            let bad = [b"rsx", &section[3..]].concat();
+            let bad = patched(&bad, &patch[..3], &mut out);
+            assert_eq!(bad, Err(Refusal::BAD_MARK));
+            assert_eq!(
+                patched(&section, &patch[..3], &mut out),
+                Err(Refusal::BAD_LENGTH)
+            );
+            assert!(out.iter().all(|&byte| byte == UNTOUCHED));
+        }
+    }
 }

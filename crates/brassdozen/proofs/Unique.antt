@@ -18,6 +18,8 @@ use Rattle.brassdozen.proofs.brassdozen_line.Reads as line
 use Rattle.brassdozen.proofs.brassdozen_listing.Reads as listing
 use Rattle.brassdozen.proofs.brassdozen_walk.Reads as walk
 use Rattle.brassdozen.proofs.brassdozen_tally.Reads as tally
+use Rattle.brassdozen.proofs.brassdozen_run.Reads as run
+use Rattle.brassdozen.proofs.brassdozen_patched.Reads as patched
 use Rattle.brassdozen.proofs.brassdozen_to_v1.Reads as to-v1
 use Rattle.brassdozen.proofs.brassdozen_to_v2.Reads as to-v2
 
@@ -65,3 +67,10 @@ walk-only κs a r r′ s s′ p q =
 
 pub tally-only : (κs : _) (a : _) (r r′ : _) (s s′ : _) → tally.Post κs a r s → tally.Post κs a r′ s′ → (r ≡ r′) × (now (s .1 .0) ≡ now (s′ .1 .0))
 tally-only κs a r r′ s s′ p q = (p .0 ∙ sym (q .0), p .1 ∙ sym (q .1))
+
+pub run-only : Only run.Post
+run-only κs a r r′ s s′ p q = p ∙ sym q
+
+pub patched-only : (κs : _) (a : _) (r r′ : _) (s s′ : _) → patched.Post κs a r s → patched.Post κs a r′ s′
+    → (r ≡ r′) × (now (s .1 .1 .0) ≡ now (s′ .1 .1 .0))
+patched-only κs a r r′ s s′ p q = (p .0 ∙ sym (q .0), p .1 ∙ sym (q .1))

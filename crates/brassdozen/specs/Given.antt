@@ -18,11 +18,14 @@ use Rattle.section_convert.specs.Convert.{givenOf}
 use Rattle.section_convert.specs.declared.Target.{Target}
 use Rattle.walk.specs.Walk.{Walks}
 use Rattle.walk.specs.declared.Walked.{Walked}
+use Rattle.patch.specs.declared.Found.{Found}
+use Rattle.patch.specs.declared.Found.the-variants.{Patch, Section, Refused}
+use Rattle.patched.specs.Patched.{patchedGiven}
 use Rattle.insn_row.specs.Row.{ROW, rowOf, numbersOf, holds}
 
--- 3.1.0
+-- 3.2.0
 abbrev pub VERSION : ℕ
-VERSION = 30100
+VERSION = 30200
 
 -- an answer's refusal; or, of an accepted one, 10 if its row is longer than what is lent
 abbrev pub rowRefusal : Decoded → List ℕ → ℕ
@@ -65,3 +68,13 @@ pub record WalksForC (s : List ℕ) (entry : ℕ) (out : List ℕ) (r : ℕ) (la
   pub walked : Walked
   pub walks : Walks s entry out walked last
   pub given : r ≡ packed (walked .refusal) (2 ^ 16 * walked .words + walked .records)
+
+-- which slice holds a run, 1 for the patch and 0 for the section above 16 bits, and from which of its bytes on; or a refusal's number
+abbrev pub foundForC : Found → ℕ
+foundForC (Patch place) = packed 0 (2 ^ 16 + place)
+foundForC (Section place) = packed 0 place
+foundForC (Refused n) = packed n 0
+
+-- the length of a patched section, or the refusal's number
+abbrev pub patchedFor : List ℕ → List ℕ → List ℕ → ℕ
+patchedFor section patch out = packed (patchedGiven section patch out .refusal) (patchedGiven section patch out .len)

@@ -11,6 +11,9 @@ use insn_row::put_row;
 use insn_value::insn_from;
 use line::line;
 use listing_text::listing;
+use patch::Found;
+use patch::find;
+use patched::patched;
 use section_convert::Target;
 use section_convert::convert;
 use tally::add_to;
@@ -24,7 +27,10 @@ ghost use Rattle.line_spelling.specs.Line.{lineOf};
 ghost use Rattle.section_convert.specs.Convert.{leftOf};
 ghost use Rattle.listing_text.specs.Listing.{listingOf};
 ghost use Rattle.tally.specs.Tally.{ownOf, lentRefusal, lentLast};
-ghost use Rattle.brassdozen.specs.Given.{WalksForC};
+ghost use Rattle.patch.specs.Image.{_from_};
+ghost use Rattle.patch.specs.Run.{foundOf};
+ghost use Rattle.patched.specs.Patched.{patchedLeft};
+ghost use Rattle.brassdozen.specs.Given.{WalksForC, foundForC, patchedFor};
 ghost use Rattle.brassdozen.specs.Given.{VERSION, rowRefusal, rowLast, encodedOf, homedOf, writtenOf, convertedTo};
 
 /// The library's version: 10,000 for each major one, 100 for each minor one, and one for each patch.
@@ -32,7 +38,7 @@ ghost use Rattle.brassdozen.specs.Given.{VERSION, rowRefusal, rowLast, e
 pub extern "C" fn brassdozen_version() -> u32
     ensures { λ r. ⌜ r ≡ VERSION ⌝ }
 {
-    30_100
+    30_200
 }
 
 /// Decodes `word` at `addr` into the row of its answer, and gives 0; or gives a refusal's number.
@@ -178,4 +184,34 @@ pub extern "C" fn brassdozen_tally(section: &[u8], counts: &mut [u64]) -> u8
     ensures { λ _. ⌜ now (counts .exit) ≡ lentLast (now (section .entry)) (now (counts .entry)) ⌝ }
 {
     add_to(counts, section)
+}
+
+/// Which of the section's words at `base` and the patch's at `over` holds the `len` bytes from `addr` on, and from which of its bytes on: that place,
+/// above it 1 for the patch and 0 for the section, and a refusal's number above both.
+#[no_mangle]
+pub extern "C" fn brassdozen_run(
+    section: &[u8],
+    base: u32,
+    patch: &[u8],
+    over: u32,
+    addr: u64,
+    len: u64,
+) -> u64
+    ensures { λ r. ⌜ r ≡ foundForC (foundOf (now (section .entry) from base) (now (patch .entry) from over) addr len) ⌝ }
+{
+    match find(section, base, patch, over, addr, len) {
+        Found::Patch(place) => pack(0, 0x1_0000 + place as u32),
+        Found::Section(place) => pack(0, place as u32),
+        Found::Refused(refusal) => pack(refusal, 0),
+    }
+}
+
+/// Writes `section` with `patch`, a section of its own, laid over its words, and gives its length, with a refusal's number above it.
+#[no_mangle]
+pub extern "C" fn brassdozen_patched<'a>(section: &'a [u8], patch: &'a [u8], out: &mut [u8]) -> u64
+    ensures { λ r. ⌜ r ≡ patchedFor (now (section .entry)) (now (patch .entry)) (now (out .entry)) ⌝ }
+    ensures { λ _. ⌜ now (out .exit) ≡ patchedLeft (now (section .entry)) (now (patch .entry)) (now (out .entry)) ⌝ }
+{
+    let w = patched(section, patch, out);
+    pack(w.refusal, w.len as u32)
 }

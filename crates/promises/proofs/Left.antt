@@ -9,12 +9,14 @@ use borrow.Author.Tests.{eq-eqb, ne-eqb, le-leb, lt-leb, eqb-true, eqb-false, le
 use lib.Dec.{eqb, leb}
 use lib.ListN.{length, take, drop}
 use lib.Seq.{take-append-seam}
-use Rattle.word.specs.Choice.{by-test}
+use Rattle.word.specs.Choice.{pick, by-test}
 use Rattle.insn.specs.declared.Decoded.{Decoded}
 use Rattle.text.specs.Text.{written}
 use Rattle.text.specs.Fits.{answerOf, lastOf}
+use Rattle.text.specs.declared.Written.{Written}
 use Rattle.section_convert.specs.Convert.{convertedOf, conversionRefusal, givenOf, leftOf}
 use Rattle.section_convert.specs.declared.Target.{Target}
+use Rattle.patched.specs.Patched.{patchedOf, patchedRefusal, patchedGiven, patchedLeft}
 use Rattle.insn_row.specs.Row.{rowOf}
 use Rattle.brassdozen.specs.Given.{rowRefusal, rowLast}
 
@@ -36,7 +38,40 @@ pub puts-row : (d : Decoded) (out : List ℕ)
     × ((d .refusal ≡ 0 → ⊥) → (rowRefusal d out ≡ d .refusal) × (rowLast d out ≡ out))
 puts-row d out = (λ ok. simp ok (puts (λ n len. n) (rowOf (d .insn)) out), λ bad. simp (ne-eqb (d .refusal) 0 bad) (refl, refl))
 
--- so is a converted section, and a conversion that is refused leaves all as it was
+-- so is a section that is written where the number n of its checks is 0; another number is given, and leaves all as it was
+module _ (n : ℕ) (text out : List ℕ) where
+  abbrev givenAfter : Written
+  givenAfter = pick (eqb n 0) (answerOf text out) (record { refusal = n; len = 0 })
+
+  abbrev leftAfter : List ℕ
+  leftAfter = pick (eqb n 0) (lastOf text out) out
+
+  puts-after : {A : Type 0} (gives : ℕ → ℕ → A)
+      → (n ≡ 0
+      → (length text ≤ length out
+      → (gives (givenAfter .refusal) (givenAfter .len) ≡ gives 0 (length text)) × (leftAfter ≡ text ++ drop (length text) out))
+      × (length out < length text → (gives (givenAfter .refusal) (givenAfter .len) ≡ gives 10 0) × (leftAfter ≡ out)))
+      × ((n ≡ 0 → ⊥) → (gives (givenAfter .refusal) (givenAfter .len) ≡ gives n 0) × (leftAfter ≡ out))
+  puts-after gives = (λ ok. simp (eq-eqb n 0 ok) (puts gives text out), λ bad. simp (ne-eqb n 0 bad) (refl, refl))
+
+  -- where no refusal is given, the text was written
+  is-written : givenAfter .refusal ≡ 0 → (n ≡ 0) × (take (givenAfter .len) leftAfter ≡ text)
+  is-written ok =
+      by-test (eqb n 0)
+      (λ e. by-test (leb (length text) (length out)) (fits (eqb-true n 0 e)) (λ f. absurd (short (eqb-true n 0 e) f)))
+      (λ e. absurd (eqb-false n 0 e (sym (puts-after (λ k len. k) .1 (eqb-false n 0 e) .0) ∙ ok)))
+    where
+      fits : n ≡ 0 → leb (length text) (length out) ≡ true → (n ≡ 0) × (take (givenAfter .len) leftAfter ≡ text)
+      fits none f =
+          let told = puts-after (λ k len. len) .0 none .0 (leb-true (length text) (length out) f) in
+          (none, rw (told .0, told .1) (take-append-seam text (drop (length text) out)))
+
+      short : n ≡ 0 → leb (length text) (length out) ≡ false → ⊥
+      short none f =
+          let told = puts-after (λ k len. k) .0 none .1 (leb-false (length text) (length out) f) in
+          omega (arith, told .0, ok)
+
+-- a converted section
 pub puts-section : {A : Type 0} (gives : ℕ → ℕ → A) (target : Target) (s out : List ℕ)
     → (conversionRefusal target s ≡ 0
     → (length (convertedOf target s) ≤ length out
@@ -46,31 +81,24 @@ pub puts-section : {A : Type 0} (gives : ℕ → ℕ → A) (target : Target) (s
     → (gives (givenOf target s out .refusal) (givenOf target s out .len) ≡ gives 10 0) × (leftOf target s out ≡ out)))
     × ((conversionRefusal target s ≡ 0 → ⊥)
     → (gives (givenOf target s out .refusal) (givenOf target s out .len) ≡ gives (conversionRefusal target s) 0) × (leftOf target s out ≡ out))
-puts-section gives target s out = unfold givenOf leftOf in (
-  λ ok. simp (eq-eqb (conversionRefusal target s) 0 ok) (puts gives (convertedOf target s) out),
-  λ bad. simp (ne-eqb (conversionRefusal target s) 0 bad) (refl, refl),
-)
+puts-section gives target s out = unfold givenOf leftOf in puts-after (conversionRefusal target s) (convertedOf target s) out gives
 
--- where no refusal is given, what was written is the converted section
 pub is-converted : (target : Target) (s out : List ℕ) → givenOf target s out .refusal ≡ 0
     → (conversionRefusal target s ≡ 0) × (take (givenOf target s out .len) (leftOf target s out) ≡ convertedOf target s)
-is-converted target s out ok =
-    by-test (eqb (conversionRefusal target s) 0)
-    (λ e. by-test (leb (length (convertedOf target s)) (length out)) (fits e) (λ f. absurd (short e f)))
-    (λ e. absurd (refused (eqb-false (conversionRefusal target s) 0 e)))
-  where
-    fits : eqb (conversionRefusal target s) 0 ≡ true → leb (length (convertedOf target s)) (length out) ≡ true
-        → (conversionRefusal target s ≡ 0) × (take (givenOf target s out .len) (leftOf target s out) ≡ convertedOf target s)
-    fits e f =
-        let can = eqb-true (conversionRefusal target s) 0 e in
-        let told = puts-section (λ n len. len) target s out .0 can .0 (leb-true (length (convertedOf target s)) (length out) f) in
-        (can, rw (told .0, told .1) (take-append-seam (convertedOf target s) (drop (length (convertedOf target s)) out)))
+is-converted target s out = unfold givenOf leftOf in is-written (conversionRefusal target s) (convertedOf target s) out
 
-    short : eqb (conversionRefusal target s) 0 ≡ true → leb (length (convertedOf target s)) (length out) ≡ false → ⊥
-    short e f =
-        let can = eqb-true (conversionRefusal target s) 0 e in
-        let told = puts-section (λ n len. n) target s out .0 can .1 (leb-false (length (convertedOf target s)) (length out) f) in
-        omega (arith, told .0, ok)
+-- a patched section
+pub puts-patched : {A : Type 0} (gives : ℕ → ℕ → A) (s p out : List ℕ)
+    → (patchedRefusal s p ≡ 0
+    → (length (patchedOf s p) ≤ length out
+    → (gives (patchedGiven s p out .refusal) (patchedGiven s p out .len) ≡ gives 0 (length (patchedOf s p)))
+    × (patchedLeft s p out ≡ patchedOf s p ++ drop (length (patchedOf s p)) out))
+    × (length out < length (patchedOf s p)
+    → (gives (patchedGiven s p out .refusal) (patchedGiven s p out .len) ≡ gives 10 0) × (patchedLeft s p out ≡ out)))
+    × ((patchedRefusal s p ≡ 0 → ⊥)
+    → (gives (patchedGiven s p out .refusal) (patchedGiven s p out .len) ≡ gives (patchedRefusal s p) 0) × (patchedLeft s p out ≡ out))
+puts-patched gives s p out = unfold patchedGiven patchedLeft in puts-after (patchedRefusal s p) (patchedOf s p) out gives
 
-    refused : (conversionRefusal target s ≡ 0 → ⊥) → ⊥
-    refused bad = bad (sym (puts-section (λ n len. n) target s out .1 bad .0) ∙ ok)
+pub is-patched : (s p out : List ℕ) → patchedGiven s p out .refusal ≡ 0
+    → (patchedRefusal s p ≡ 0) × (take (patchedGiven s p out .len) (patchedLeft s p out) ≡ patchedOf s p)
+is-patched s p out = unfold patchedGiven patchedLeft in is-written (patchedRefusal s p) (patchedOf s p) out

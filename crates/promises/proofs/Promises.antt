@@ -8,7 +8,7 @@ use mathlib.Core.Logic.{_↔_}
 use Prim.Native.Nat.{ℕ, _+_, _*_, _^_, _<_, _≤_}
 use borrow.Author.Tests.{ne-eqb, lt-ltb, le-ltb}
 use base.Fml.{Lft}
-use denote.Ref.{RefT, now}
+use denote.Ref.{RefT, now, ptr}
 use lib.ListN.{length, take, drop, getD}
 use Rattle.word.specs.Bytes.{wordAt}
 use Rattle.word.specs.Field.{field}
@@ -44,6 +44,12 @@ use Rattle.tally.specs.Tally.{howMany, allOf, countsOf, sum, flowsOf, rootsOf, 
 use Rattle.tally.specs.Tally.{ownOf as ownRefusal, refusalOf as addingRefusal}
 use Rattle.tally.specs.declared.Added.{Added}
 use Rattle.tally.specs.declared.Tally.{Tally}
+use Rattle.patch.specs.Image.{Laid, _from_, sectionWith, wordsRefusal}
+use Rattle.patch.specs.Part.{Fit, IsRun, NoRun}
+use Rattle.patch.specs.Run.{liesAt}
+use Rattle.patch.specs.declared.Found.{Found}
+use Rattle.patched.specs.Patched.{patchedOf, patchedRefusal}
+use Rattle.patched.specs.Promise.{Patches}
 use Rattle.promises_predicated.specs.Predicated.{under}
 use Rattle.manual.specs.A5.{tableRow}
 use Rattle.manual.specs.A8.{rowOf as pageOf}
@@ -52,7 +58,7 @@ use Rattle.manual_drawn.specs.HomeReads.{SaidAs, homely, saidAt}
 use Rattle.manual.specs.Stands.{Stands, inRange}
 use Rattle.manual_drawn.specs.Exceptions.{excepted}
 use Rattle.insn_row.specs.Row.{rowOf}
-use Rattle.brassdozen.specs.Given.{Answers, WalksForC}
+use Rattle.brassdozen.specs.Given.{Answers, WalksForC, foundForC}
 use Rattle.a32.proofs.decode as decode
 use Rattle.a32.proofs.decode_bytes as decode-bytes
 use Rattle.encode.proofs.encode as encode
@@ -65,6 +71,10 @@ use Rattle.line.proofs.line as line
 use Rattle.listing_text.proofs.listing as listing
 use Rattle.walk.proofs.walk as walk
 use Rattle.tally.proofs.add as add
+use Rattle.patch.proofs.find as find
+use Rattle.patch.proofs.run as run
+use Rattle.patch.proofs.run_refusal as run-refusal
+use Rattle.patched.proofs.patched as patched
 use Rattle.brassdozen.proofs.brassdozen_version as c-version
 use Rattle.brassdozen.proofs.brassdozen_decode as c-decode
 use Rattle.brassdozen.proofs.brassdozen_decode_bytes as c-decode-bytes
@@ -78,6 +88,8 @@ use Rattle.brassdozen.proofs.brassdozen_to_v1 as c-to-v1
 use Rattle.brassdozen.proofs.brassdozen_to_v2 as c-to-v2
 use Rattle.brassdozen.proofs.brassdozen_walk as c-walk
 use Rattle.brassdozen.proofs.brassdozen_tally as c-tally
+use Rattle.brassdozen.proofs.brassdozen_run as c-run
+use Rattle.brassdozen.proofs.brassdozen_patched as c-patched
 use Rattle.a32_elsewhere.proofs.Elsewhere as Elsewhere
 use Rattle.a32_refusals.proofs.Refusals as Refusals
 use Rattle.encode_home.proofs.Same as Same
@@ -91,6 +103,10 @@ use Rattle.tally.proofs.Lent as Lent
 use Rattle.tally.proofs.Tallied as Tallied
 use Rattle.tally.proofs.Sums as Sums
 use Rattle.tally.proofs.Order as Order
+use Rattle.patch.proofs.Runs as Runs
+use Rattle.patch.proofs.Words as Words
+use Rattle.patched.proofs.Patches as Patching
+use Rattle.patched.proofs.Short as Patched
 use Rattle.manual_follows.proofs.Follows as Follows
 use Rattle.manual_drawn.proofs.Drawn as Drawn
 use Rattle.manual_drawn.proofs.Homes as Homes
@@ -136,11 +152,11 @@ PutsRow d before r after =
     (Accepts d → Puts (λ n len. n) (rowOf (d .insn)) before r after)
     × ((Accepts d → ⊥) → (r ≡ d .refusal) × (after ≡ before))
 
--- a converted section is written so; if it can't be converted the refusal's number is given, and every byte stays
-abbrev PutsSection : {A : Type 0} → (ℕ → ℕ → A) → Target → (section before : List ℕ) → A → (after : List ℕ) → Type 0
-PutsSection gives target section before r after =
-    (conversionRefusal target section ≡ 0 → Puts gives (convertedOf target section) before r after)
-    × ((conversionRefusal target section ≡ 0 → ⊥) → (r ≡ gives (conversionRefusal target section) 0) × (after ≡ before))
+-- a section is written so if n is 0; else n, the number of a refusal, is given, and every byte stays
+abbrev PutsSection : {A : Type 0} → (ℕ → ℕ → A) → (n : ℕ) (text before : List ℕ) → A → (after : List ℕ) → Type 0
+PutsSection gives n text before r after =
+    (n ≡ 0 → Puts gives text before r after)
+    × ((n ≡ 0 → ⊥) → (r ≡ gives n 0) × (after ≡ before))
 
 -- The contracts as relations: of what a function is given, what it gives and, of a buffer that it is lent, what it leaves there. `Post` is the
 -- contract as the check reads it from the source. κ and κ′ are the lifetimes of what is lent, whatever they are.
@@ -186,6 +202,23 @@ module _ (κ κ′ : Lft) where
   AddsEach t [] t′ = t′ ≡ t
   AddsEach t (section ∷ sections) t′ = (r : Added) × Adds t section r × AddsEach (r .tally) sections t′
 
+  -- both slices of a run have one lifetime where a part of either is given
+  abbrev FindsRun : (section : Slice) (base : ℕ) (patch : Slice) (over addr len : ℕ) → Found → Type 0
+  FindsRun section base patch over addr len found =
+      find.Reads.Post (κ, (κ′, tt)) (section, (base, (patch, (over, (addr, (len, tt)))))) found (section, (base, (patch, (over, (addr, (len, tt))))))
+
+  abbrev GivesRun : (section : Slice) (base : ℕ) (patch : Slice) (over addr len : ℕ) (part : Slice) → Type 0
+  GivesRun section base patch over addr len part =
+      run.Reads.Post (κ, tt) (section, (base, (patch, (over, (addr, (len, tt)))))) part (section, (base, (patch, (over, (addr, (len, tt))))))
+
+  abbrev RefusesRun : (section : Slice) (base : ℕ) (patch : Slice) (over addr len : ℕ) → ℕ → Type 0
+  RefusesRun section base patch over addr len n =
+      run-refusal.Reads.Post (κ, (κ′, tt)) (section, (base, (patch, (over, (addr, (len, tt)))))) n
+      (section, (base, (patch, (over, (addr, (len, tt))))))
+
+  abbrev WritesPatched : (section patch out : Slice) → Written → (out′ : Slice) → Type 0
+  WritesPatched section patch out r out′ = patched.Reads.Post (κ, (κ′, tt)) (section, (patch, (out, tt))) r (section, (patch, (out′, tt)))
+
   -- and those for C and Rust
 
   abbrev DecodesToRow : (w addr : ℕ) (row : Slice) → ℕ → (row′ : Slice) → Type 0
@@ -219,6 +252,13 @@ module _ (κ κ′ : Lft) where
   abbrev AddsForC : (section counts : Slice) → ℕ → (counts′ : Slice) → Type 0
   AddsForC section counts n counts′ = c-tally.Reads.Post (κ, (κ′, tt)) (section, (counts, tt)) n (section, (counts′, tt))
 
+  abbrev FindsRunForC : (section : Slice) (base : ℕ) (patch : Slice) (over addr len : ℕ) → ℕ → Type 0
+  FindsRunForC section base patch over addr len p =
+      c-run.Reads.Post (κ, (κ′, tt)) (section, (base, (patch, (over, (addr, (len, tt)))))) p (section, (base, (patch, (over, (addr, (len, tt))))))
+
+  abbrev WritesPatchedForC : (section patch out : Slice) → ℕ → (out′ : Slice) → Type 0
+  WritesPatchedForC section patch out p out′ = c-patched.Reads.Post (κ, (κ′, tt)) (section, (patch, (out, tt))) p (section, (patch, (out′, tt)))
+
   -- 1. Taken without fault.
 
   -- Every function takes every input.
@@ -235,6 +275,10 @@ module _ (κ κ′ : Lft) where
       × Taken listing.Statement.statement listing.Reads.Asked
       × Taken walk.Statement.statement walk.Reads.Asked
       × Taken add.Statement.statement add.Reads.Asked
+      × Taken find.Statement.statement find.Reads.Asked
+      × Taken run.Statement.statement run.Reads.Asked
+      × Taken run-refusal.Statement.statement run-refusal.Reads.Asked
+      × Taken patched.Statement.statement patched.Reads.Asked
       × Taken c-version.Statement.statement c-version.Reads.Asked
       × Taken c-decode.Statement.statement c-decode.Reads.Asked
       × Taken c-decode-bytes.Statement.statement c-decode-bytes.Reads.Asked
@@ -248,6 +292,8 @@ module _ (κ κ′ : Lft) where
       × Taken c-to-v2.Statement.statement c-to-v2.Reads.Asked
       × Taken c-walk.Statement.statement c-walk.Reads.Asked
       × Taken c-tally.Statement.statement c-tally.Reads.Asked
+      × Taken c-run.Statement.statement c-run.Reads.Asked
+      × Taken c-patched.Statement.statement c-patched.Reads.Asked
   taken = (
     (λ M. decode.Met.met, λ κs a. tt),
     (λ M. decode-bytes.Met.met, λ κs a. tt),
@@ -261,6 +307,10 @@ module _ (κ κ′ : Lft) where
     (λ M. listing.Met.met, λ κs a. tt),
     (λ M. walk.Met.met, λ κs a. tt),
     (λ M. add.Met.met, λ κs a. tt),
+    (λ M. find.Met.met, λ κs a. tt),
+    (λ M. run.Met.met, λ κs a. tt),
+    (λ M. run-refusal.Met.met, λ κs a. tt),
+    (λ M. patched.Met.met, λ κs a. tt),
     (λ M. c-version.Met.met, λ κs a. tt),
     (λ M. c-decode.Met.met, λ κs a. tt),
     (λ M. c-decode-bytes.Met.met, λ κs a. tt),
@@ -274,6 +324,8 @@ module _ (κ κ′ : Lft) where
     (λ M. c-to-v2.Met.met, λ κs a. tt),
     (λ M. c-walk.Met.met, λ κs a. tt),
     (λ M. c-tally.Met.met, λ κs a. tt),
+    (λ M. c-run.Met.met, λ κs a. tt),
+    (λ M. c-patched.Met.met, λ κs a. tt),
   )
 
   -- Fewer than four bytes are refused with 1; of more, the first four are decoded, low byte first.
@@ -319,11 +371,11 @@ module _ (κ κ′ : Lft) where
 
   -- A section is converted, or refused with its own number, with 12 or with 10, and then no byte is changed.
   pub converts : (section : Slice) (target : Target) (out out′ : Slice) (r : Written) → Converts section target out r out′
-      → PutsSection given target (now section) (now out) r (now out′)
+      → PutsSection given (conversionRefusal target (now section)) (convertedOf target (now section)) (now out) r (now out′)
   converts section target out out′ r wrote = rw (wrote .0, wrote .1) (Left.puts-section given target _ _)
 
   pub converts-for-c : (target : Target) (section out out′ : Slice) (p : ℕ) → ConvertsForC target section out p out′
-      → PutsSection packed target (now section) (now out) p (now out′)
+      → PutsSection packed (conversionRefusal target (now section)) (convertedOf target (now section)) (now out) p (now out′)
   converts-for-c One section out out′ p wrote = rw (wrote .0, wrote .1) (Left.puts-section packed One _ _)
   converts-for-c Two section out out′ p wrote = rw (wrote .0, wrote .1) (Left.puts-section packed Two _ _)
 
@@ -536,9 +588,9 @@ module _ (κ κ′ : Lft) where
   pub counts : (sections : List Slice) (t : Tally) → AddsEach noneOf sections t → t .counts ≡ countsOf (addedOf (map now sections))
   counts sections t each = rw (each-added noneOf sections each, Tallied.tallies (map now sections)) refl
     where
-      each-added : (from : Tally) (ss : List Slice) → AddsEach from ss t → t ≡ addAll from (map now ss)
-      each-added from [] is = is
-      each-added from (s ∷ ss) is = each-added (is .0 .tally) ss (is .2) ∙ ap (λ (r : Added). addAll (r .tally) (map now ss)) (is .1)
+      each-added : (t₀ : Tally) (ss : List Slice) → AddsEach t₀ ss t → t ≡ addAll t₀ (map now ss)
+      each-added t₀ [] is = is
+      each-added t₀ (s ∷ ss) is = each-added (is .0 .tally) ss (is .2) ∙ ap (λ (r : Added). addAll (r .tally) (map now ss)) (is .1)
 
   -- Flows and roots each sum to the accepted words; words are data, refused with 2 or 3, or accepted.
   pub sums : (sections : List Slice) (t : Tally) → AddsEach noneOf sections t
@@ -570,3 +622,63 @@ module _ (κ κ′ : Lft) where
     λ bad. wrote .0 ∙ sym (Answered.its-own (ownRefusal (now section)) (now counts) bad),
     wrote .1 ∙ Lent.too-few (now section) (now counts) short,
   )
+
+  -- Words at a base are accepted exactly if they are whole, at most 4,096, at a multiple of 4, and not beyond the last address; and else refused with
+  -- the number of the section of version 1 that has them.
+  pub words-accepted : (l : Laid) → (wordsRefusal l ≡ 0) ↔ Fit l
+  words-accepted l = Words.fit-exactly l
+
+  pub words-refused : (l : Laid) → wordsRefusal l ≡ refusalOf (sectionWith l)
+  words-refused l = unfold wordsRefusal in refl
+
+  -- A run's number is that of the section's words, or else of the patch's, or else 14, exactly if the run is empty or neither holds all of it; or 0.
+  module _ (section : Slice) (base : ℕ) (patch : Slice) (over addr len n : ℕ) (is : RefusesRun section base patch over addr len n) where
+    pub section-first : (wordsRefusal (now section from base) ≡ 0 → ⊥) → n ≡ wordsRefusal (now section from base)
+    section-first bad = is ∙ Runs.section-first (now section from base) (now patch from over) addr len bad
+
+    pub then-patch : wordsRefusal (now section from base) ≡ 0 → (wordsRefusal (now patch from over) ≡ 0 → ⊥) → n ≡ wordsRefusal (now patch from over)
+    then-patch ok bad = is ∙ Runs.then-patch (now section from base) (now patch from over) addr len ok bad
+
+    pub no-run-exactly : (n ≡ 14)
+        ↔ (wordsRefusal (now section from base) ≡ 0)
+        × (wordsRefusal (now patch from over) ≡ 0)
+        × NoRun (now section from base) (now patch from over) addr len
+    no-run-exactly = rw is (Runs.no-run-exactly (now section from base) (now patch from over) addr len)
+
+    -- If it is 0 the part is the run: bytes of the one slice that holds all of them, and the image's at those addresses. Else the part is empty.
+    pub is-run : (part : Slice) → GivesRun section base patch over addr len part → n ≡ 0
+        → IsRun (now section from base) (now patch from over) addr len (now part)
+    is-run part gives none = rw (gives .0) (Runs.is-run (now section from base) (now patch from over) addr len (sym is ∙ none))
+
+    pub empty-exactly : (part : Slice) → GivesRun section base patch over addr len part → (now part ≡ []) ↔ (n ≡ 0 → ⊥)
+    empty-exactly part gives = rw (is, gives .0) (Runs.empty-exactly (now section from base) (now patch from over) addr len)
+
+  pub one-run : (s p : Laid) (addr len : ℕ) (part part′ : List ℕ) → IsRun s p addr len part → IsRun s p addr len part′ → part ≡ part′
+  one-run s p addr len part part′ run run′ = Runs.one-run s p addr len part part′ run run′
+
+  -- It lies where that slice lies, from that place on; C and Rust are given the place.
+  pub run-lies : (section : Slice) (base : ℕ) (patch : Slice) (over addr len : ℕ) (found : Found) (part : Slice)
+      → FindsRun section base patch over addr len found → GivesRun section base patch over addr len part
+      → ptr part ≡ liesAt (ptr section) (ptr patch) found
+  run-lies section base patch over addr len found part is gives = rw is (gives .1)
+
+  pub run-for-c : (section : Slice) (base : ℕ) (patch : Slice) (over addr len : ℕ) (found : Found) (p : ℕ)
+      → FindsRun section base patch over addr len found → FindsRunForC section base patch over addr len p → p ≡ foundForC found
+  run-for-c section base patch over addr len found p is gives = rw is gives
+
+  -- A patched section is written, or refused with the section's number, then the patch's, then with 10, and then no byte is changed.
+  pub writes-patched : (section patch out out′ : Slice) (r : Written) → WritesPatched section patch out r out′
+      → PutsSection given (patchedRefusal (now section) (now patch)) (patchedOf (now section) (now patch)) (now out) r (now out′)
+  writes-patched section patch out out′ r wrote = rw (wrote .0, wrote .1) (Left.puts-patched given (now section) (now patch) _)
+
+  pub writes-patched-for-c : (section patch out out′ : Slice) (p : ℕ) → WritesPatchedForC section patch out p out′
+      → PutsSection packed (patchedRefusal (now section) (now patch)) (patchedOf (now section) (now patch)) (now out) p (now out′)
+  writes-patched-for-c section patch out out′ p wrote = rw (wrote .0, wrote .1) (Left.puts-patched packed (now section) (now patch) _)
+
+  -- It is accepted, with the section's header and ranges and at each place the image's word; where the patch does not reach all is as before.
+  pub patches : (section patch out out′ : Slice) (r : Written) → WritesPatched section patch out r out′ → r .refusal ≡ 0
+      → Patches (now section) (now patch) (take (r .len) (now out′))
+  patches section patch out out′ r wrote ok =
+      let done = Left.is-patched (now section) (now patch) (now out) (rw (wrote .0) at ok) in
+      let both = Patched.accepted (now section) (now patch) (done .0) in
+      rw (wrote .0, wrote .1, done .1) (Patching.patches (now section) (now patch) (both .0) (both .1))

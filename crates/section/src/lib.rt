@@ -26,10 +26,10 @@ const RANGE: usize = 8;
 
 const MOST_RANGES: usize = 64;
 
-const MOST_WORDS: usize = 4096;
+pub const MOST_WORDS: usize = 4096;
 
 /// What lies behind the last address.
-const END: usize = 0x1_0000_0000;
+pub const END: usize = 0x1_0000_0000;
 
 /// What a section is opened to, once, for all that go through it: a refusal's number alone, or 0 with the version, the base, how many words
 /// there are, how many ranges of them are data, and where the words start.

@@ -53,6 +53,10 @@ HAS_RANGES = 12
 abbrev pub NO_PLACE : ℕ
 NO_PLACE = 13
 
+-- "when the run is empty, or no single one of patch and unhidden section holds all of it"
+abbrev pub NO_RUN : ℕ
+NO_RUN = 14
+
 -- "on adding section 65,537"
 abbrev pub TOO_MANY_SECTIONS : ℕ
 TOO_MANY_SECTIONS = 16

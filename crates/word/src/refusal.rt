@@ -39,5 +39,8 @@ pub const HAS_RANGES: u8 = 12;
 /// Entry of a walk that is no place in the section.
 pub const NO_PLACE: u8 = 13;
 
+/// Run of a patched section that is empty, or that neither section nor patch holds alone.
+pub const NO_RUN: u8 = 14;
+
 /// Section 65,537 of a tally.
 pub const TOO_MANY_SECTIONS: u8 = 16;

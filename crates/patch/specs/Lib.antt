@@ -1,0 +1,4 @@
+pub mod Image
+pub mod Run
+pub mod Bounds
+pub mod Part
