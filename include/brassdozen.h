@@ -1,8 +1,8 @@
-/* Brassdozen for C: a decoder, an encoder and a lister of A32, a walk through it, and counts and patches over it, each function proved to meet the
-   contract that stands here in words. docs/LIBRARY.md says how to build the library, and where its proof ends.
+/* Brassdozen for C: a decoder, an encoder and a lister of A32, a walk through it, counts and patches over it and an index of its calls, each
+   function proved to meet the contract that stands here in words. docs/LIBRARY.md says how to build the library, and where its proof ends.
 
-   Every function returns, for every word, address and content of what it is lent, and does nothing but write to its `out`, `row`, `records`
-   or `counts`. It keeps nothing, takes nothing but a little stack and may be called by several threads at once.
+   Every function returns, for every word, address and content of what it is lent, and does nothing but write to what it is lent without const.
+   It keeps nothing, takes nothing but a little stack and may be called by several threads at once.
 
    What the caller owes: a pointer is aligned for its type and not null, even where its length is 0; so many elements behind it are readable,
    and behind a pointer that is not const writable; and nothing else touches those, the other argument of the same call neither, until the
@@ -19,7 +19,7 @@ extern "C" {
 
 /* The version of this header: 10,000 for each major one, 100 for each minor one, and one for each patch. The major one changes where what is
    here changes, a row or a function, and the minor one where something is added. */
-enum { BRASSDOZEN_VERSION = 30200 };
+enum { BRASSDOZEN_VERSION = 30300 };
 
 /* The version of the library that is linked. */
 uint32_t brassdozen_version(void);
@@ -35,11 +35,12 @@ enum {
     BRASSDOZEN_BAD_LENGTH = 7,        /* a section: shorter than 9 bytes, the count of ranges or a range cut short, or not whole words */
     BRASSDOZEN_TOO_MANY_WORDS = 8,    /* a section: more than 4,096 words */
     BRASSDOZEN_BAD_BASE = 9,          /* a section: its base is no multiple of 4, or its words go beyond the last address */
-    BRASSDOZEN_NO_ROOM = 10,          /* writing: longer than what is lent; adding: fewer numbers lent than a tally has */
+    BRASSDOZEN_NO_ROOM = 10,          /* writing: longer than what is lent; a tally or an index: fewer numbers are lent than one has */
     BRASSDOZEN_BAD_RANGES = 11,       /* a section: more than 64 ranges, or one that is empty, not in the section, or not after the one before it */
     BRASSDOZEN_HAS_RANGES = 12,       /* converting to version 1: a section with ranges */
-    BRASSDOZEN_NO_PLACE = 13,         /* walking: the entry is no place of the section */
+    BRASSDOZEN_NO_PLACE = 13,         /* walking: the entry is no place of the section; replacing a word: its place is none */
     BRASSDOZEN_NO_RUN = 14,           /* looking up a run: it is empty, or neither section nor patch holds all of it */
+    BRASSDOZEN_TOO_MANY_CALLS = 15,   /* an index: it has, or would have, more than 1,024 calls */
     BRASSDOZEN_TOO_MANY_SECTIONS = 16 /* adding to a tally: 65,536 sections are in it */
 };
 
@@ -53,7 +54,8 @@ enum {
     BRASSDOZEN_LISTING = 393280, /* no listing has more bytes */
     BRASSDOZEN_SECTION = 16907,  /* no section that is accepted has more bytes */
     BRASSDOZEN_REPORT = 49152,   /* no report of a walk has more numbers */
-    BRASSDOZEN_TALLY = 171       /* the numbers of a tally */
+    BRASSDOZEN_TALLY = 171,      /* the numbers of a tally */
+    BRASSDOZEN_INDEX = 2048      /* so many numbers are lent for an index of calls */
 };
 
 /* A row: an instruction value as numbers.
@@ -190,6 +192,31 @@ static inline size_t brassdozen_run_place(uint64_t given) { return (size_t)(give
    the same numbers; and else, with 10, exactly if the section is longer than `length`. A refusal changes no byte of `out`, and nothing changes one
    after the section. */
 uint64_t brassdozen_patched(const uint8_t *section, size_t bytes, const uint8_t *patch, size_t patch_bytes, uint8_t *out, size_t length);
+
+/* An index of calls: two numbers for each, the address that it goes to and its own, from the first number of the array on. The array has at least
+   2,048 numbers, and what is behind the entries is not read. The calls of a section are its words whose flow is call, bl under any condition and
+   blx to an address; data is none. In an index that brassdozen_index writes they stand in order of target and then of caller, as unsigned
+   numbers, each once.
+
+   Writes the index of a section to the start of `index`, and gives the number of its calls, at most 1,024. A section that is not accepted is
+   refused with 5, 6, 7, 8, 9 or 11, as its listing says; else a `length` below 2,048 with 10; and else more than 1,024 calls with 15. A refusal
+   changes no number of `index`, and nothing changes one behind the last entry. */
+uint64_t brassdozen_index(const uint8_t *section, size_t bytes, uint32_t *index, size_t length);
+
+/* Replaces the word at `place` of a section, of which there are `count` calls in `index`, and gives the number of calls after that: the entries with
+   the caller's address go, whatever their target, and if the word is now a call, it goes in before the first entry that is greater, else last. So
+   of an index as brassdozen_index writes it, it makes the one that brassdozen_index writes of the new words; any other list gets the same steps.
+   A word stays a word, and data stays data.
+
+   A section that is not accepted is refused as above; else a `place` that is none of its places with 13; else a `length` below 2,048 with 10; else
+   a `count` above 1,024 with 15; and else, with 15, exactly if there would be more than 1,024 entries. A refusal changes nothing. Without one,
+   the four bytes of the word change, low byte first, and the entries; nothing behind the last entry changes. One word is decoded. */
+uint64_t brassdozen_replace(uint8_t *section, size_t bytes, uint32_t place, uint32_t word, uint32_t *index, size_t length, uint32_t count);
+
+/* Writes the callers of `target`, in the order of the index, to the start of `out`, and gives how many there are. A `length` below 2,048 is refused
+   with 10; else a `count` above 1,024 with 15; and else, with 10, exactly if there are more callers than `room`. A refusal changes no number of
+   `out`, and nothing changes one behind the callers. */
+uint64_t brassdozen_callers(const uint32_t *index, size_t length, uint32_t count, uint32_t target, uint32_t *out, size_t room);
 
 #ifdef __cplusplus
 }

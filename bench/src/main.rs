@@ -54,6 +54,7 @@ fn run(arguments: &[String]) -> Result<(), String> {
     others(&inputs[2]);
     listings(&inputs[2]);
     walks();
+    indexes();
     process::processes(commands)
 }
 
@@ -238,6 +239,41 @@ fn each_a_branch(count: usize) -> Vec<u32> {
         words[place] = 0xea00_0000 | (to as u32).wrapping_sub(place as u32 + 2) & 0x00ff_ffff;
     }
     words
+}
+
+/// Indexes of sections in which each word is a call, by the number of calls: building one, where the targets descend, so that each call goes in before
+/// all others, and where they ascend; and updating one, where the word in the middle calls an address beyond all others, and again its old one.
+fn indexes() {
+    println!("| index of calls, microseconds | built, descending | built, ascending | updated |");
+    println!("|---|---:|---:|---:|");
+    let mut index = Box::new([0; proved::INDEX]);
+    for count in [16, 64, 256, 1024] {
+        let [descending, ascending] = [-2, 0].map(|step| {
+            let section = section(&calls(count, step));
+            assert_eq!(proved::indexed(&section, &mut index), count);
+            best_of(count, || proved::indexed(&section, &mut index)) * 1e6
+        });
+        let mut section = section(&calls(count, 0));
+        proved::indexed(&section, &mut index);
+        let mut word = 0xeb00_0000;
+        let updated = best_of(count, || {
+            word ^= 0x0000_1000;
+            proved::replaced(&mut section, count / 2, word, &mut index, count)
+        });
+        println!(
+            "| {count} calls | {descending:.2} | {ascending:.2} | {:.2} |",
+            updated * 1e6
+        );
+    }
+    println!();
+}
+
+/// Words that call: the offset of each is that of the one before it, and `step` more.
+fn calls(count: usize, step: i32) -> Vec<u32> {
+    let offset = |place: usize| (place as i32 * step) as u32 & 0x00ff_ffff;
+    (0..count)
+        .map(|place| 0xeb00_0000 | offset(place))
+        .collect()
 }
 
 /// The seconds that a call takes over `count` words, the best of seven rounds of many calls.

@@ -21,6 +21,21 @@ mod linked {
             records: *mut u32,
             room: usize,
         ) -> u64;
+        pub fn brassdozen_index(
+            section: *const u8,
+            bytes: usize,
+            index: *mut u32,
+            numbers: usize,
+        ) -> u64;
+        pub fn brassdozen_replace(
+            section: *mut u8,
+            bytes: usize,
+            place: u32,
+            word: u32,
+            index: *mut u32,
+            numbers: usize,
+            count: u32,
+        ) -> u64;
     }
 }
 
@@ -76,7 +91,45 @@ pub fn walked(section: &[u8], records: &mut [u32; REPORT]) -> usize {
     (given >> 16) as u16 as usize
 }
 
-/// A text's length, without the refusal's number above it.
+/// So many numbers are lent for an index of calls.
+pub const INDEX: usize = 2_048;
+
+/// How many calls a section has. Their index is written.
+pub fn indexed(section: &[u8], index: &mut [u32; INDEX]) -> usize {
+    // Safety: as above.
+    length(unsafe {
+        linked::brassdozen_index(
+            section.as_ptr(),
+            section.len(),
+            index.as_mut_ptr(),
+            index.len(),
+        )
+    })
+}
+
+/// How many calls it has when the word at a place is replaced. The index of so many calls is updated.
+pub fn replaced(
+    section: &mut [u8],
+    place: usize,
+    word: u32,
+    index: &mut [u32; INDEX],
+    count: usize,
+) -> usize {
+    // Safety: as above.
+    length(unsafe {
+        linked::brassdozen_replace(
+            section.as_mut_ptr(),
+            section.len(),
+            place as u32,
+            word,
+            index.as_mut_ptr(),
+            index.len(),
+            count as u32,
+        )
+    })
+}
+
+/// A length or a count, without the refusal's number above it.
 fn length(given: u64) -> usize {
     given as u32 as usize
 }

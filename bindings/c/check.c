@@ -466,6 +466,87 @@ static void check_patched(void)
     }
 }
 
+/* What is handed in for an index, and is behind its entries. */
+static void untouched_index(uint32_t *index) { memset(index, UNTOUCHED, 4 * (BRASSDOZEN_INDEX + 2)); }
+
+/* Building and replacing that are refused: not a byte and not a number changes. */
+static void check_no_index(uint8_t *section, size_t bytes, uint32_t place, size_t length, uint32_t count, unsigned refusal)
+{
+    uint32_t index[BRASSDOZEN_INDEX + 2];
+    static uint8_t before[9 + 4 * 4097];
+    untouched_index(index);
+    memcpy(before, section, bytes);
+    uint64_t given = brassdozen_replace(section, bytes, place, 0xeb000000, index, length, count);
+    CHECK(brassdozen_refusal(given) == refusal && brassdozen_result(given) == 0);
+    if (refusal != BRASSDOZEN_NO_PLACE && refusal != BRASSDOZEN_TOO_MANY_CALLS) {
+        given = brassdozen_index(section, bytes, index, length);
+        CHECK(brassdozen_refusal(given) == refusal && brassdozen_result(given) == 0);
+    }
+    CHECK(memcmp(before, section, bytes) == 0);
+    CHECK(untouched(index, index + BRASSDOZEN_INDEX + 2));
+}
+
+static void check_index(void)
+{
+    /* In order of target: 4, 11 and 1 of the section above call. */
+    static const uint32_t calls[] = {0x8002, 0x8010, 0x8034, 0x802c, 0x100040, 0x8004};
+    uint32_t index[BRASSDOZEN_INDEX + 2], fresh[BRASSDOZEN_INDEX + 2], out[4];
+    uint8_t section[WALKED_BYTES] = {'R', 'S', 'X', 2, 0, 0, 0x80, 0, 0, 1, 0, 9, 0, 0, 0, 1, 0, 0, 0};
+    for (size_t place = 0; place < WALKED; place++)
+        for (size_t byte = 0; byte < 4; byte++)
+            section[19 + 4 * place + byte] = (uint8_t)(walked[place] >> 8 * byte);
+    untouched_index(index);
+    CHECK(brassdozen_index(section, WALKED_BYTES, index, BRASSDOZEN_INDEX) == 3);
+    CHECK(memcmp(index, calls, sizeof calls) == 0);
+    CHECK(untouched(index + 6, index + BRASSDOZEN_INDEX + 2));
+
+    /* Place 1 calls 8034 instead, so it comes before 11; place 10 calls it too; then 1 calls no more; data at 9 never does. */
+    static const uint32_t changes[][3] = {{1, 0xeb00000a, 3}, {10, 0x0b000001, 4}, {1, 0xe1a00000, 3}, {9, 0xeb000000, 3}};
+    for (size_t n = 0; n < sizeof changes / sizeof *changes; n++) {
+        uint32_t count = n == 0 ? 3 : changes[n - 1][2];
+        uint64_t given = brassdozen_replace(section, WALKED_BYTES, changes[n][0], changes[n][1], index, BRASSDOZEN_INDEX, count);
+        CHECK(given == changes[n][2]);
+        CHECK(section[19 + 4 * changes[n][0]] == (changes[n][1] & 0xff) && section[22 + 4 * changes[n][0]] == changes[n][1] >> 24);
+        untouched_index(fresh);
+        CHECK(brassdozen_index(section, WALKED_BYTES, fresh, BRASSDOZEN_INDEX + 2) == given);
+        CHECK(memcmp(index, fresh, 8 * changes[n][2]) == 0);
+    }
+    for (size_t room = 0; room <= 4; room++) {
+        memset(out, UNTOUCHED, sizeof out);
+        uint64_t given = brassdozen_callers(index, BRASSDOZEN_INDEX, 3, 0x8034, out, room);
+        if (room < 2) {
+            CHECK(brassdozen_refusal(given) == BRASSDOZEN_NO_ROOM && untouched(out, out + 4));
+        } else {
+            CHECK(given == 2 && out[0] == 0x8028 && out[1] == 0x802c && untouched(out + 2, out + 4));
+        }
+    }
+    CHECK(brassdozen_callers(index, BRASSDOZEN_INDEX, 3, 0x8035, out, 0) == 0);
+    CHECK(brassdozen_refusal(brassdozen_callers(index, BRASSDOZEN_INDEX - 1, 1025, 0x8034, out, 4)) == BRASSDOZEN_NO_ROOM);
+    CHECK(brassdozen_refusal(brassdozen_callers(index, BRASSDOZEN_INDEX, 1025, 0x8034, out, 0)) == BRASSDOZEN_TOO_MANY_CALLS);
+
+    check_no_index(section, 8, WALKED, 0, 1025, BRASSDOZEN_BAD_LENGTH);
+    check_no_index(section, WALKED_BYTES, WALKED, 0, 1025, BRASSDOZEN_NO_PLACE);
+    check_no_index(section, WALKED_BYTES, 0, BRASSDOZEN_INDEX - 1, 1025, BRASSDOZEN_NO_ROOM);
+    check_no_index(section, WALKED_BYTES, 0, BRASSDOZEN_INDEX, 1025, BRASSDOZEN_TOO_MANY_CALLS);
+    check_no_index(section, WALKED_BYTES, 0, BRASSDOZEN_INDEX, 1024, BRASSDOZEN_TOO_MANY_CALLS);
+    check_no_index(section, WALKED_BYTES, 0, BRASSDOZEN_INDEX, UINT32_MAX, BRASSDOZEN_TOO_MANY_CALLS);
+
+    /* 1,024 calls are indexed, and one more is not. */
+    static uint8_t many[9 + 4 * 1025] = "RSX\1";
+    for (size_t place = 0; place < 1025; place++)
+        many[9 + 4 * place + 3] = 0xeb;
+    untouched_index(index);
+    uint64_t given = brassdozen_index(many, sizeof many, index, BRASSDOZEN_INDEX);
+    CHECK(brassdozen_refusal(given) == BRASSDOZEN_TOO_MANY_CALLS && brassdozen_result(given) == 0);
+    CHECK(untouched(index, index + BRASSDOZEN_INDEX + 2));
+    CHECK(brassdozen_index(many, sizeof many - 4, index, BRASSDOZEN_INDEX) == 1024);
+    many[12] = 0xea;
+    CHECK(brassdozen_index(many, sizeof many, index, BRASSDOZEN_INDEX) == 1024);
+    given = brassdozen_replace(many, sizeof many, 0, 0xeb000000, index, BRASSDOZEN_INDEX, 1024);
+    CHECK(brassdozen_refusal(given) == BRASSDOZEN_TOO_MANY_CALLS && many[12] == 0xea);
+    CHECK(brassdozen_replace(many, sizeof many, 1, 0xeb000001, index, BRASSDOZEN_INDEX, 1024) == 1024);
+}
+
 int main(void)
 {
     static uint8_t words[4 * 4096];
@@ -496,6 +577,7 @@ int main(void)
     check_walk();
     check_tally();
     check_patched();
+    check_index();
     CHECK(brassdozen_version() == BRASSDOZEN_VERSION);
     uint64_t nothing = 0;
     CHECK(brassdozen_refusal(brassdozen_encode(&nothing, 0)) == BRASSDOZEN_NO_WORD);

@@ -6,6 +6,8 @@ extern crate self as e5r_core;
 
 mod addr;
 mod answer;
+mod called_section;
+mod calls;
 mod conditions;
 mod cores;
 mod damage;
@@ -14,6 +16,7 @@ mod damaged_section;
 mod digest;
 mod excepted;
 mod home;
+mod indexes;
 mod line;
 mod load;
 mod made;
@@ -72,6 +75,7 @@ modes of the oracle (numbers are hexadecimal, but COUNT, SEED and ENTRY; no SET 
   walks COUNT SEED     has the proved code walk through made-up and stored sections
   tallies COUNT SEED FILE ..  has it count over the sections in the files and made-up ones
   patches COUNT SEED   has the proved code look up runs of patched sections, and write these
+  indexes COUNT SEED   has the proved code index the calls of as many sections, and replace words
   SET                  FIRST COUNT, 'branches', or 'coprocessors'";
 
 fn main() -> ExitCode {
@@ -139,6 +143,11 @@ fn run(arguments: &[&str]) -> Result<ExitCode, String> {
         }
         ["patches", count, seed] => {
             let (tally, failures) = patches::patches(proved()?, decimal(count)?, decimal(seed)?);
+            println!("{tally}\n{failures} failures");
+            return Ok(success_if(failures == 0));
+        }
+        ["indexes", count, seed] => {
+            let (tally, failures) = indexes::indexes(proved()?, decimal(count)?, decimal(seed)?);
             println!("{tally}\n{failures} failures");
             return Ok(success_if(failures == 0));
         }

@@ -37,6 +37,14 @@ pub struct Proved {
     pub run: fn(section: Laid, patch: Laid, address: u64, length: u64) -> u64,
     /// Writes a section with a patch laid over it to the start of `out`. Gives what `listing` gives.
     pub patched: fn(section: &[u8], patch: &[u8], out: &mut [u8]) -> u64,
+    /// Writes the index of a section's calls. Gives what `Coded::of` reads, with their number in the
+    /// word's place.
+    pub index: fn(section: &[u8], index: &mut [u32]) -> u64,
+    /// Replaces a word and updates the index of so many calls. Gives the same.
+    pub replace:
+        fn(section: &mut [u8], place: u32, word: u32, index: &mut [u32], count: u32) -> u64,
+    /// Writes the callers of a target. Gives the same, with their number.
+    pub callers: fn(index: &[u32], count: u32, target: u32, out: &mut [u32]) -> u64,
 }
 
 /// What encoding gives: a word beside no refusal, or a refusal's number beside word 0.
@@ -92,6 +100,9 @@ pub const PROVED: Option<Proved> = Some(Proved {
     tally: linked::tally,
     run: linked::run,
     patched: linked::patched,
+    index: linked::index,
+    replace: linked::replace,
+    callers: linked::callers,
 });
 
 #[cfg(not(proved))]
@@ -141,6 +152,29 @@ mod linked {
             patch: *const u8,
             patch_bytes: usize,
             out: *mut u8,
+            room: usize,
+        ) -> u64;
+        fn brassdozen_index(
+            section: *const u8,
+            bytes: usize,
+            index: *mut u32,
+            numbers: usize,
+        ) -> u64;
+        fn brassdozen_replace(
+            section: *mut u8,
+            bytes: usize,
+            place: u32,
+            word: u32,
+            index: *mut u32,
+            numbers: usize,
+            count: u32,
+        ) -> u64;
+        fn brassdozen_callers(
+            index: *const u32,
+            numbers: usize,
+            count: u32,
+            target: u32,
+            out: *mut u32,
             room: usize,
         ) -> u64;
     }
@@ -210,5 +244,28 @@ mod linked {
                 out.len(),
             )
         }
+    }
+
+    pub fn index(section: &[u8], index: &mut [u32]) -> u64 {
+        let (numbers, length) = (index.as_mut_ptr(), index.len());
+        unsafe { brassdozen_index(section.as_ptr(), section.len(), numbers, length) }
+    }
+
+    pub fn replace(
+        section: &mut [u8],
+        place: u32,
+        word: u32,
+        index: &mut [u32],
+        count: u32,
+    ) -> u64 {
+        let (bytes, size) = (section.as_mut_ptr(), section.len());
+        let (numbers, length) = (index.as_mut_ptr(), index.len());
+        unsafe { brassdozen_replace(bytes, size, place, word, numbers, length, count) }
+    }
+
+    pub fn callers(index: &[u32], count: u32, target: u32, out: &mut [u32]) -> u64 {
+        let (numbers, length) = (index.as_ptr(), index.len());
+        let (callers, room) = (out.as_mut_ptr(), out.len());
+        unsafe { brassdozen_callers(numbers, length, count, target, callers, room) }
     }
 }

@@ -1,5 +1,5 @@
-//! Brassdozen for Rust: a decoder, an encoder and a lister of A32, a walk through it, and counts and
-//! patches over it, proved to meet their contracts.
+//! Brassdozen for Rust: a decoder, an encoder and a lister of A32, a walk through it, counts and
+//! patches over it and an index of its calls, proved to meet their contracts.
 //!
 //! Each function here is safe and calls one of `include/brassdozen.h`, which has its contract in
 //! words, and the layout of a row.
@@ -7,7 +7,7 @@
 #![no_std]
 
 /// The version that these declarations are of, as `BRASSDOZEN_VERSION` of the header says it.
-pub const VERSION: u32 = 30_200;
+pub const VERSION: u32 = 30_300;
 
 /// How many numbers a row has.
 pub const ROW: usize = 71;
@@ -26,6 +26,9 @@ pub const REPORT: usize = 49_152;
 
 /// How many numbers a tally has.
 pub const TALLY: usize = 171;
+
+/// So many numbers are lent for an index of calls.
+pub const INDEX: usize = 2_048;
 
 /// The number of a refusal.
 #[derive(Debug, Clone, Copy, PartialEq, Eq)]
@@ -59,7 +62,8 @@ impl Refusal {
     /// A section: its base is no multiple of 4, or its words go beyond the last address.
     pub const BAD_BASE: Refusal = Refusal(9);
 
-    /// Writing: longer than what is lent. Adding: fewer numbers lent than a tally has.
+    /// Writing: longer than what is lent. Adding: fewer numbers lent than a tally has. An index: fewer
+    /// than 2,048.
     pub const NO_ROOM: Refusal = Refusal(10);
 
     /// A section: more than 64 ranges, or one that is empty, not in the section, or not after the
@@ -69,11 +73,14 @@ impl Refusal {
     /// Converting to version 1: a section with ranges.
     pub const HAS_RANGES: Refusal = Refusal(12);
 
-    /// Walking: the entry is no place of the section.
+    /// Walking: the entry is no place of the section. Replacing a word: its place is none.
     pub const NO_PLACE: Refusal = Refusal(13);
 
     /// Looking up a run: it is empty, or neither section nor patch holds all of it.
     pub const NO_RUN: Refusal = Refusal(14);
+
+    /// An index: it has, or would have, more than 1,024 calls.
+    pub const TOO_MANY_CALLS: Refusal = Refusal(15);
 
     /// Adding to a tally: 65,536 sections are in it.
     pub const TOO_MANY_SECTIONS: Refusal = Refusal(16);
@@ -102,8 +109,9 @@ impl core::fmt::Display for Refusal {
                  or not after the one before it"
             }
             12 => ": ranges of data, which version 1 does not have",
-            13 => ": entry not a place in the section",
+            13 => ": not a place in the section",
             14 => ": run that is empty, or not held by section or patch alone",
+            15 => ": more than 1,024 calls for an index",
             16 => ": 65,536 sections in the tally already",
             _ => "",
         };
@@ -300,6 +308,54 @@ pub fn patched(section: &[u8], patch: &[u8], out: &mut [u8]) -> Result<usize, Re
     given(number).map(|length| length as usize)
 }
 
+/// Writes the index of a section's calls, target and caller of each, to the start of `index`, and
+/// gives how many there are. A refusal changes no number.
+pub fn index(section: &[u8], index: &mut [u32]) -> Result<usize, Refusal> {
+    let (numbers, length) = (index.as_mut_ptr(), index.len());
+    let number =
+        unsafe { foreign::brassdozen_index(section.as_ptr(), section.len(), numbers, length) };
+    given(number).map(|count| count as usize)
+}
+
+/// Replaces the word at `place` of a section and updates its index of `count` calls, and gives how
+/// many there are then. A refusal changes nothing.
+pub fn replace(
+    section: &mut [u8],
+    place: u32,
+    word: u32,
+    index: &mut [u32],
+    count: usize,
+) -> Result<usize, Refusal> {
+    let (bytes, size) = (section.as_mut_ptr(), section.len());
+    let (numbers, length) = (index.as_mut_ptr(), index.len());
+    let number = unsafe {
+        foreign::brassdozen_replace(bytes, size, place, word, numbers, length, number_of(count))
+    };
+    given(number).map(|count| count as usize)
+}
+
+/// Writes the callers of `target` in an index of `count` calls, in its order, to the start of `out`,
+/// and gives how many there are. A refusal changes no number.
+pub fn callers(
+    index: &[u32],
+    count: usize,
+    target: u32,
+    out: &mut [u32],
+) -> Result<usize, Refusal> {
+    let (numbers, length) = (index.as_ptr(), index.len());
+    let (callers, room) = (out.as_mut_ptr(), out.len());
+    let number = unsafe {
+        foreign::brassdozen_callers(numbers, length, number_of(count), target, callers, room)
+    };
+    given(number).map(|count| count as usize)
+}
+
+/// A count of calls as it crosses the call: one that 32 bits do not hold is refused as any other that
+/// is too large.
+fn number_of(count: usize) -> u32 {
+    u32::try_from(count).unwrap_or(u32::MAX)
+}
+
 /// A refusal's number, or 0.
 fn done(refusal: u8) -> Result<(), Refusal> {
     match refusal {
@@ -384,6 +440,29 @@ mod foreign {
             patch_bytes: usize,
             out: *mut u8,
             length: usize,
+        ) -> u64;
+        pub fn brassdozen_index(
+            section: *const u8,
+            bytes: usize,
+            index: *mut u32,
+            length: usize,
+        ) -> u64;
+        pub fn brassdozen_replace(
+            section: *mut u8,
+            bytes: usize,
+            place: u32,
+            word: u32,
+            index: *mut u32,
+            length: usize,
+            count: u32,
+        ) -> u64;
+        pub fn brassdozen_callers(
+            index: *const u32,
+            length: usize,
+            count: u32,
+            target: u32,
+            out: *mut u32,
+            room: usize,
         ) -> u64;
     }
 }

@@ -6,9 +6,9 @@ use std::fs;
 use std::path::PathBuf;
 
 use brassdozen::{
-    LINE, LISTING, REPORT, ROW, Refusal, SECTION, TALLY, VERSION, Walk, count, decode,
-    decode_bytes, encode, encode_zeros, home, home_zeros, kind, line, listing, patched, run, tally,
-    to_v1, to_v2, version, walk,
+    INDEX, LINE, LISTING, REPORT, ROW, Refusal, SECTION, TALLY, VERSION, Walk, callers, count,
+    decode, decode_bytes, encode, encode_zeros, home, home_zeros, index, kind, line, listing,
+    patched, replace, run, tally, to_v1, to_v2, version, walk,
 };
 
 /// What a buffer holds before a call.
@@ -1071,4 +1071,155 @@ fn a_patched_section_is_one_of_its_own() {
             assert!(out.iter().all(|&byte| byte == UNTOUCHED));
         }
     }
+}
+
+/// The calls of a section's words, in order, as their rows have them: target and caller.
+fn calls_of(base: u32, words: &[u32], ranges: &[(u32, u32)]) -> Vec<(u32, u32)> {
+    let mut calls = Vec::new();
+    for (place, &word) in words.iter().enumerate() {
+        let is_data = ranges
+            .iter()
+            .any(|&(first, count)| (first as usize..(first + count) as usize).contains(&place));
+        let caller = base + 4 * place as u32;
+        let mut row = [0; ROW];
+        if !is_data && decode(word, caller.into(), &mut row).is_ok() && row[3] == 4 {
+            calls.push((row[4] as u32, caller));
+        }
+    }
+    calls.sort();
+    calls
+}
+
+fn numbers(calls: &[(u32, u32)]) -> Vec<u32> {
+    calls.iter().flat_map(|call| [call.0, call.1]).collect()
+}
+
+/// What is built has to be this, with nothing written behind it.
+fn built(section: &[u8], calls: &[(u32, u32)]) -> Vec<u32> {
+    let mut array = vec![UNTOUCHED_PART; INDEX + 3];
+    assert_eq!(index(section, &mut array), Ok(calls.len()));
+    assert_eq!(array[..2 * calls.len()], numbers(calls));
+    assert!(
+        array[2 * calls.len()..]
+            .iter()
+            .all(|&n| n == UNTOUCHED_PART)
+    );
+    array
+}
+
+#[test]
+fn an_updated_index_is_the_one_built_afresh() {
+    let random = &mut Random(0xca11);
+    for _ in 0..200 {
+        let (base, mut words, ranges) = random_section(random);
+        for word in &mut words {
+            if random.below(3) == 0 {
+                *word = 0xeb00_0000 | random.below(64) as u32;
+            }
+        }
+        let mut section = section_2(base, &ranges, &words);
+        let mut calls = calls_of(base, &words, &ranges);
+        let changes = if words.is_empty() { 0 } else { 6 };
+        let mut array = built(&section, &calls);
+        for _ in 0..changes {
+            let place = random.below(words.len() as u64) as usize;
+            let offset = random.below(64) as u32;
+            let word =
+                [0xeb00_0000 | offset, 0xfa00_0000 | offset, 0xe1a0_0000][random.below(3) as usize];
+            words[place] = word;
+            let after = calls_of(base, &words, &ranges);
+            let before = array.clone();
+            let given = replace(&mut section, place as u32, word, &mut array, calls.len());
+            assert_eq!(given, Ok(after.len()));
+            assert_eq!(section, section_2(base, &ranges, &words));
+            assert_eq!(array[..2 * after.len()], numbers(&after));
+            assert_eq!(array[2 * after.len()..], before[2 * after.len()..]);
+            built(&section, &after);
+            calls = after;
+        }
+        for &(target, _) in calls.iter().take(3) {
+            let right: Vec<u32> = calls
+                .iter()
+                .filter(|call| call.0 == target)
+                .map(|call| call.1)
+                .collect();
+            for room in [0, right.len() - 1, right.len(), right.len() + 2] {
+                let mut out = vec![UNTOUCHED_PART; room];
+                let given = callers(&array, calls.len(), target, &mut out);
+                if room < right.len() {
+                    assert_eq!(given, Err(Refusal::NO_ROOM));
+                    assert!(out.iter().all(|&n| n == UNTOUCHED_PART));
+                } else {
+                    assert_eq!(given, Ok(right.len()));
+                    assert_eq!(out[..right.len()], right);
+                    assert!(out[right.len()..].iter().all(|&n| n == UNTOUCHED_PART));
+                }
+            }
+        }
+    }
+}
+
+#[test]
+fn any_list_gets_the_same_steps() {
+    // A nop takes the place of the first word, then a call of the third.
+    let mut section = section_1(0x8000, &[0xeb00_0000, 0xe1a0_0000]);
+    let list = [
+        (9, 0x8000),
+        (0x9000, 1),
+        (2, 0x8000),
+        (0x8008, 0x8000),
+        (1, 1),
+        (1, 1),
+    ];
+    let mut array = vec![UNTOUCHED_PART; INDEX];
+    array[..12].copy_from_slice(&numbers(&list));
+    assert_eq!(replace(&mut section, 0, 0xe1a0_0000, &mut array, 6), Ok(3));
+    assert_eq!(array[..6], [0x9000, 1, 1, 1, 1, 1]);
+    assert_eq!(array[6..12], numbers(&list)[6..]);
+    assert_eq!(replace(&mut section, 0, 0xeb00_0000, &mut array, 3), Ok(4));
+    assert_eq!(array[..8], [0x8008, 0x8000, 0x9000, 1, 1, 1, 1, 1]);
+    let mut out = [0; 2];
+    assert_eq!(callers(&array, 4, 1, &mut out), Ok(2));
+    assert_eq!(out, [1, 1]);
+}
+
+#[test]
+fn an_index_is_refused_in_order() {
+    let good = section_1(0x8000, &[0xeb00_0000; 3]);
+    let cases: [(&[u8], u32, usize, usize, Refusal); 6] = [
+        (&good[..good.len() - 1], 9, 0, 1025, Refusal::BAD_LENGTH),
+        (&good, 3, 0, 1025, Refusal::NO_PLACE),
+        (&good, u32::MAX, INDEX, 0, Refusal::NO_PLACE),
+        (&good, 2, INDEX - 1, 1025, Refusal::NO_ROOM),
+        (&good, 2, INDEX, 1025, Refusal::TOO_MANY_CALLS),
+        (&good, 2, INDEX, usize::MAX, Refusal::TOO_MANY_CALLS),
+    ];
+    for (section, place, length, count, refusal) in cases {
+        let mut array = vec![UNTOUCHED_PART; length];
+        let mut bytes = section.to_vec();
+        assert_eq!(
+            replace(&mut bytes, place, 0, &mut array, count),
+            Err(refusal)
+        );
+        assert_eq!(bytes, section);
+        assert!(array.iter().all(|&n| n == UNTOUCHED_PART));
+    }
+    let mut short = vec![UNTOUCHED_PART; INDEX - 1];
+    assert_eq!(index(&good, &mut short), Err(Refusal::NO_ROOM));
+    assert_eq!(index(&good[1..], &mut short), Err(Refusal::BAD_MARK));
+    assert_eq!(callers(&short, 1025, 0, &mut []), Err(Refusal::NO_ROOM));
+    let mut array = vec![UNTOUCHED_PART; INDEX];
+    assert_eq!(
+        callers(&array, 1025, 0, &mut []),
+        Err(Refusal::TOO_MANY_CALLS)
+    );
+    assert_eq!(
+        index(&section_1(0, &[0xeb00_0000; 1025]), &mut array),
+        Err(Refusal::TOO_MANY_CALLS)
+    );
+    assert!(array.iter().all(|&n| n == UNTOUCHED_PART));
+    assert_eq!(
+        index(&section_1(0, &[0xeb00_0000; 1024]), &mut array),
+        Ok(1024)
+    );
 }

@@ -5,6 +5,7 @@ use Prim.Native.Nat.{_+_, _*_, _^_}
 use denote.Ref.{now}
 use Rattle.word.specs.Only.{Only}
 use Rattle.word_packed.specs.Packed.{packed}
+use Rattle.callers.specs.declared.Indexed.{Indexed}
 use Rattle.walk.specs.declared.Walked.{Walked}
 use Rattle.walk.proofs.Unique.{walks-only}
 use Rattle.brassdozen.proofs.brassdozen_version.Reads as version
@@ -20,6 +21,9 @@ use Rattle.brassdozen.proofs.brassdozen_walk.Reads as walk
 use Rattle.brassdozen.proofs.brassdozen_tally.Reads as tally
 use Rattle.brassdozen.proofs.brassdozen_run.Reads as run
 use Rattle.brassdozen.proofs.brassdozen_patched.Reads as patched
+use Rattle.brassdozen.proofs.brassdozen_index.Reads as index
+use Rattle.brassdozen.proofs.brassdozen_replace.Reads as replace
+use Rattle.brassdozen.proofs.brassdozen_callers.Reads as callers
 use Rattle.brassdozen.proofs.brassdozen_to_v1.Reads as to-v1
 use Rattle.brassdozen.proofs.brassdozen_to_v2.Reads as to-v2
 
@@ -74,3 +78,22 @@ run-only κs a r r′ s s′ p q = p ∙ sym q
 pub patched-only : (κs : _) (a : _) (r r′ : _) (s s′ : _) → patched.Post κs a r s → patched.Post κs a r′ s′
     → (r ≡ r′) × (now (s .1 .1 .0) ≡ now (s′ .1 .1 .0))
 patched-only κs a r r′ s s′ p q = (p .0 ∙ sym (q .0), p .1 ∙ sym (q .1))
+
+pub index-only : (κs : _) (a : _) (r r′ : _) (s s′ : _) → index.Post κs a r s → index.Post κs a r′ s′
+    → (r ≡ r′) × (now (s .1 .0) ≡ now (s′ .1 .0))
+index-only κs a r r′ s s′ p q =
+    let same = p .builds .answer ∙ sym (q .builds .answer) in
+    (p .given ∙ ap (λ (i : Indexed). packed (i .refusal) (i .count)) same ∙ sym (q .given), p .builds .left ∙ sym (q .builds .left))
+
+pub replace-only : (κs : _) (a : _) (r r′ : _) (s s′ : _) → replace.Post κs a r s → replace.Post κs a r′ s′
+    → (r ≡ r′) × (now (s .0) ≡ now (s′ .0)) × (now (s .1 .1 .1 .0) ≡ now (s′ .1 .1 .1 .0))
+replace-only κs a r r′ s s′ p q =
+    let same = p .replaces .answer ∙ sym (q .replaces .answer) in (
+      p .given ∙ ap (λ (i : Indexed). packed (i .refusal) (i .count)) same ∙ sym (q .given),
+      p .replaces .words ∙ sym (q .replaces .words),
+      p .replaces .left ∙ sym (q .replaces .left),
+    )
+
+pub callers-only : (κs : _) (a : _) (r r′ : _) (s s′ : _) → callers.Post κs a r s → callers.Post κs a r′ s′
+    → (r ≡ r′) × (now (s .1 .1 .1 .0) ≡ now (s′ .1 .1 .1 .0))
+callers-only κs a r r′ s s′ p q = (p .given ∙ sym (q .given), p .left ∙ sym (q .left))

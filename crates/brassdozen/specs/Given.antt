@@ -16,6 +16,9 @@ use Rattle.word_packed.specs.Packed.{packed}
 use Rattle.text.specs.Fits.{answerOf, lastOf}
 use Rattle.section_convert.specs.Convert.{givenOf}
 use Rattle.section_convert.specs.declared.Target.{Target}
+use Rattle.callers_index.specs.Entries.{foundOf, leftOf}
+use Rattle.callers.specs.Index.{Builds, Replaces}
+use Rattle.callers.specs.declared.Indexed.{Indexed}
 use Rattle.walk.specs.Walk.{Walks}
 use Rattle.walk.specs.declared.Walked.{Walked}
 use Rattle.patch.specs.declared.Found.{Found}
@@ -23,9 +26,9 @@ use Rattle.patch.specs.declared.Found.the-variants.{Patch, Section, Refused}
 use Rattle.patched.specs.Patched.{patchedGiven}
 use Rattle.insn_row.specs.Row.{ROW, rowOf, numbersOf, holds}
 
--- 3.2.0
+-- 3.3.0
 abbrev pub VERSION : ℕ
-VERSION = 30200
+VERSION = 30300
 
 -- an answer's refusal; or, of an accepted one, 10 if its row is longer than what is lent
 abbrev pub rowRefusal : Decoded → List ℕ → ℕ
@@ -78,3 +81,18 @@ foundForC (Refused n) = packed n 0
 -- the length of a patched section, or the refusal's number
 abbrev pub patchedFor : List ℕ → List ℕ → List ℕ → ℕ
 patchedFor section patch out = packed (patchedGiven section patch out .refusal) (patchedGiven section patch out .len)
+
+-- what building, updating and looking up give and leave: the number of entries or of callers, above 32 bits a refusal's number
+pub record BuildsForC (s index : List ℕ) (r : ℕ) (index′ : List ℕ) : Type 0 where
+  pub built : Indexed
+  pub builds : Builds s index built index′
+  pub given : r ≡ packed (built .refusal) (built .count)
+
+pub record ReplacesForC (s : List ℕ) (place w : ℕ) (index : List ℕ) (count : ℕ) (r : ℕ) (s′ index′ : List ℕ) : Type 0 where
+  pub updated : Indexed
+  pub replaces : Replaces s place w index count updated s′ index′
+  pub given : r ≡ packed (updated .refusal) (updated .count)
+
+pub record FindsForC (index : List ℕ) (count target : ℕ) (out : List ℕ) (r : ℕ) (out′ : List ℕ) : Type 0 where
+  pub given : r ≡ packed (foundOf index count target out .refusal) (foundOf index count target out .len)
+  pub left : out′ ≡ leftOf index count target out

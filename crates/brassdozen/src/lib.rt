@@ -2,6 +2,9 @@
 //! `include/brassdozen.h` declares each function to C.
 use a32::decode;
 use a32::decode_bytes;
+use callers::build;
+use callers::replace;
+use callers_index::callers;
 use encode::home_with;
 use encode_home::Filler;
 use encode_words::filled_word;
@@ -30,7 +33,7 @@ ghost use Rattle.tally.specs.Tally.{ownOf, lentRefusal, lentLast};
 ghost use Rattle.patch.specs.Image.{_from_};
 ghost use Rattle.patch.specs.Run.{foundOf};
 ghost use Rattle.patched.specs.Patched.{patchedLeft};
-ghost use Rattle.brassdozen.specs.Given.{WalksForC, foundForC, patchedFor};
+ghost use Rattle.brassdozen.specs.Given.{WalksForC, foundForC, patchedFor, BuildsForC, ReplacesForC, FindsForC};
 ghost use Rattle.brassdozen.specs.Given.{VERSION, rowRefusal, rowLast, encodedOf, homedOf, writtenOf, convertedTo};
 
 /// The library's version: 10,000 for each major one, 100 for each minor one, and one for each patch.
@@ -38,7 +41,7 @@ ghost use Rattle.brassdozen.specs.Given.{VERSION, rowRefusal, rowLast, e
 pub extern "C" fn brassdozen_version() -> u32
     ensures { λ r. ⌜ r ≡ VERSION ⌝ }
 {
-    30_200
+    30_300
 }
 
 /// Decodes `word` at `addr` into the row of its answer, and gives 0; or gives a refusal's number.
@@ -214,4 +217,37 @@ pub extern "C" fn brassdozen_patched<'a>(section: &'a [u8], patch: &'a [u8], out
 {
     let w = patched(section, patch, out);
     pack(w.refusal, w.len as u32)
+}
+
+/// Writes the index of the calls of `section`, target and caller in turn, and gives how many there are, with a refusal's number above it.
+#[no_mangle]
+pub extern "C" fn brassdozen_index(section: &[u8], index: &mut [u32]) -> u64
+    ensures { λ r. ⌜ BuildsForC (now (section .entry)) (now (index .entry)) r (now (index .exit)) ⌝ }
+{
+    let built = build(section, index);
+    pack(built.refusal, built.count as u32)
+}
+
+/// Replaces the word at a place of `section`, and updates its index of `count` calls. Gives how many there are now, with a refusal's number above it.
+#[no_mangle]
+pub extern "C" fn brassdozen_replace(
+    section: &mut [u8],
+    place: u32,
+    word: u32,
+    index: &mut [u32],
+    count: u32,
+) -> u64
+    ensures { λ r. ⌜ ReplacesForC (now (section .entry)) place word (now (index .entry)) count r (now (section .exit)) (now (index .exit)) ⌝ }
+{
+    let updated = replace(section, place as usize, word, index, count as usize);
+    pack(updated.refusal, updated.count as u32)
+}
+
+/// Writes the callers of `target` in an index of `count` calls, and gives how many there are, with a refusal's number above it.
+#[no_mangle]
+pub extern "C" fn brassdozen_callers(index: &[u32], count: u32, target: u32, out: &mut [u32]) -> u64
+    ensures { λ r. ⌜ FindsForC (now (index .entry)) count target (now (out .entry)) r (now (out .exit)) ⌝ }
+{
+    let found = callers(index, count as usize, target, out);
+    pack(found.refusal, found.len as u32)
 }

@@ -34,6 +34,12 @@ use Rattle.text.specs.Text.{bytes, decimalOf, hexOf}
 use Rattle.text.specs.declared.Written.{Written}
 use Rattle.line_spelling.specs.Line.{answerText, lineText}
 use Rattle.listing_text.specs.Listing.{dataLine, lineHere, namedHere, refusedHere, dataHere, total, closingOf, listingOf}
+use Rattle.callers_index.specs.Entries.{entriesOf, foundOf, leftOf}
+use Rattle.callers_index.specs.Ordered.{In, Ordered}
+use Rattle.callers_index.specs.declared.Entry.{Entry}
+use Rattle.callers.specs.Calls.{IsCall}
+use Rattle.callers.specs.Index.{updatedOf, Builds, Replaces}
+use Rattle.callers.specs.declared.Indexed.{Indexed}
 use Rattle.walk_steps.specs.Steps.{stepsOf}
 use Rattle.walk.specs.Reached.{Reached}
 use Rattle.walk.specs.Walk.{Walks}
@@ -58,7 +64,7 @@ use Rattle.manual_drawn.specs.HomeReads.{SaidAs, homely, saidAt}
 use Rattle.manual.specs.Stands.{Stands, inRange}
 use Rattle.manual_drawn.specs.Exceptions.{excepted}
 use Rattle.insn_row.specs.Row.{rowOf}
-use Rattle.brassdozen.specs.Given.{Answers, WalksForC, foundForC}
+use Rattle.brassdozen.specs.Given.{Answers, WalksForC, foundForC, BuildsForC, ReplacesForC, FindsForC}
 use Rattle.a32.proofs.decode as decode
 use Rattle.a32.proofs.decode_bytes as decode-bytes
 use Rattle.encode.proofs.encode as encode
@@ -75,6 +81,9 @@ use Rattle.patch.proofs.find as find
 use Rattle.patch.proofs.run as run
 use Rattle.patch.proofs.run_refusal as run-refusal
 use Rattle.patched.proofs.patched as patched
+use Rattle.callers.proofs.build as build
+use Rattle.callers.proofs.replace as replace
+use Rattle.callers_index.proofs.callers as callers
 use Rattle.brassdozen.proofs.brassdozen_version as c-version
 use Rattle.brassdozen.proofs.brassdozen_decode as c-decode
 use Rattle.brassdozen.proofs.brassdozen_decode_bytes as c-decode-bytes
@@ -90,6 +99,9 @@ use Rattle.brassdozen.proofs.brassdozen_walk as c-walk
 use Rattle.brassdozen.proofs.brassdozen_tally as c-tally
 use Rattle.brassdozen.proofs.brassdozen_run as c-run
 use Rattle.brassdozen.proofs.brassdozen_patched as c-patched
+use Rattle.brassdozen.proofs.brassdozen_index as c-index
+use Rattle.brassdozen.proofs.brassdozen_replace as c-replace
+use Rattle.brassdozen.proofs.brassdozen_callers as c-callers
 use Rattle.a32_elsewhere.proofs.Elsewhere as Elsewhere
 use Rattle.a32_refusals.proofs.Refusals as Refusals
 use Rattle.encode_home.proofs.Same as Same
@@ -97,6 +109,8 @@ use Rattle.encode.proofs.Encodes as Encodes
 use Rattle.section.proofs.Accepted as Sections
 use Rattle.section.proofs.Places as Places
 use Rattle.section_convert.proofs.Converts as Conversion
+use Rattle.callers.proofs.Built as Calling
+use Rattle.callers.proofs.Left as Indexing
 use Rattle.walk.proofs.Kept as Walking
 use Rattle.tally.proofs.Answers as Answered
 use Rattle.tally.proofs.Lent as Lent
@@ -219,6 +233,17 @@ module _ (κ κ′ : Lft) where
   abbrev WritesPatched : (section patch out : Slice) → Written → (out′ : Slice) → Type 0
   WritesPatched section patch out r out′ = patched.Reads.Post (κ, (κ′, tt)) (section, (patch, (out, tt))) r (section, (patch, (out′, tt)))
 
+  abbrev BuildsIndex : (section index : Slice) → Indexed → (index′ : Slice) → Type 0
+  BuildsIndex section index r index′ = build.Reads.Post (κ, (κ′, tt)) (section, (index, tt)) r (section, (index′, tt))
+
+  abbrev ReplacesWord : (section : Slice) (place w : ℕ) (index : Slice) (count : ℕ) → Indexed → (section′ index′ : Slice) → Type 0
+  ReplacesWord section place w index count r section′ index′ =
+      replace.Reads.Post (κ, (κ′, tt)) (section, (place, (w, (index, (count, tt))))) r (section′, (place, (w, (index′, (count, tt)))))
+
+  abbrev FindsCallers : (index : Slice) (count target : ℕ) (out : Slice) → Written → (out′ : Slice) → Type 0
+  FindsCallers index count target out r out′ =
+      callers.Reads.Post (κ, (κ′, tt)) (index, (count, (target, (out, tt)))) r (index, (count, (target, (out′, tt))))
+
   -- and those for C and Rust
 
   abbrev DecodesToRow : (w addr : ℕ) (row : Slice) → ℕ → (row′ : Slice) → Type 0
@@ -259,6 +284,17 @@ module _ (κ κ′ : Lft) where
   abbrev WritesPatchedForC : (section patch out : Slice) → ℕ → (out′ : Slice) → Type 0
   WritesPatchedForC section patch out p out′ = c-patched.Reads.Post (κ, (κ′, tt)) (section, (patch, (out, tt))) p (section, (patch, (out′, tt)))
 
+  abbrev BuildsIndexForC : (section index : Slice) → ℕ → (index′ : Slice) → Type 0
+  BuildsIndexForC section index p index′ = c-index.Reads.Post (κ, (κ′, tt)) (section, (index, tt)) p (section, (index′, tt))
+
+  abbrev ReplacesWordForC : (section : Slice) (place w : ℕ) (index : Slice) (count : ℕ) → ℕ → (section′ index′ : Slice) → Type 0
+  ReplacesWordForC section place w index count p section′ index′ =
+      c-replace.Reads.Post (κ, (κ′, tt)) (section, (place, (w, (index, (count, tt))))) p (section′, (place, (w, (index′, (count, tt)))))
+
+  abbrev FindsCallersForC : (index : Slice) (count target : ℕ) (out : Slice) → ℕ → (out′ : Slice) → Type 0
+  FindsCallersForC index count target out p out′ =
+      c-callers.Reads.Post (κ, (κ′, tt)) (index, (count, (target, (out, tt)))) p (index, (count, (target, (out′, tt))))
+
   -- 1. Taken without fault.
 
   -- Every function takes every input.
@@ -279,6 +315,9 @@ module _ (κ κ′ : Lft) where
       × Taken run.Statement.statement run.Reads.Asked
       × Taken run-refusal.Statement.statement run-refusal.Reads.Asked
       × Taken patched.Statement.statement patched.Reads.Asked
+      × Taken build.Statement.statement build.Reads.Asked
+      × Taken replace.Statement.statement replace.Reads.Asked
+      × Taken callers.Statement.statement callers.Reads.Asked
       × Taken c-version.Statement.statement c-version.Reads.Asked
       × Taken c-decode.Statement.statement c-decode.Reads.Asked
       × Taken c-decode-bytes.Statement.statement c-decode-bytes.Reads.Asked
@@ -294,6 +333,9 @@ module _ (κ κ′ : Lft) where
       × Taken c-tally.Statement.statement c-tally.Reads.Asked
       × Taken c-run.Statement.statement c-run.Reads.Asked
       × Taken c-patched.Statement.statement c-patched.Reads.Asked
+      × Taken c-index.Statement.statement c-index.Reads.Asked
+      × Taken c-replace.Statement.statement c-replace.Reads.Asked
+      × Taken c-callers.Statement.statement c-callers.Reads.Asked
   taken = (
     (λ M. decode.Met.met, λ κs a. tt),
     (λ M. decode-bytes.Met.met, λ κs a. tt),
@@ -311,6 +353,9 @@ module _ (κ κ′ : Lft) where
     (λ M. run.Met.met, λ κs a. tt),
     (λ M. run-refusal.Met.met, λ κs a. tt),
     (λ M. patched.Met.met, λ κs a. tt),
+    (λ M. build.Met.met, λ κs a. tt),
+    (λ M. replace.Met.met, λ κs a. tt),
+    (λ M. callers.Met.met, λ κs a. tt),
     (λ M. c-version.Met.met, λ κs a. tt),
     (λ M. c-decode.Met.met, λ κs a. tt),
     (λ M. c-decode-bytes.Met.met, λ κs a. tt),
@@ -326,6 +371,9 @@ module _ (κ κ′ : Lft) where
     (λ M. c-tally.Met.met, λ κs a. tt),
     (λ M. c-run.Met.met, λ κs a. tt),
     (λ M. c-patched.Met.met, λ κs a. tt),
+    (λ M. c-index.Met.met, λ κs a. tt),
+    (λ M. c-replace.Met.met, λ κs a. tt),
+    (λ M. c-callers.Met.met, λ κs a. tt),
   )
 
   -- Fewer than four bytes are refused with 1; of more, the first four are decoded, low byte first.
@@ -608,8 +656,8 @@ module _ (κ κ′ : Lft) where
       ap (λ (numbers : List ℕ). record { counts = numbers })
       (counts sections t each ∙ Order.same-added moved few ∙ sym (counts sections′ t′ each′))
 
-  -- For C and Rust a tally stands at the start of lent numbers, and those behind it stay. Fewer than 171 are no tally: they stay as they are, and 10 is
-  -- given after the section's own number.
+  -- For C and Rust a tally stands at the start of lent numbers, and those behind it stay. Fewer than 171 are no tally: they stay as they are, and 10
+  -- is given after the section's own number.
   pub adds-for-c : (section counts counts′ : Slice) (n : ℕ) (t : Tally) (r : Added) (rest : List ℕ) → AddsForC section counts n counts′
       → Adds t section r → 171 ≤ length (t .counts) → now counts ≡ t .counts ++ rest → (n ≡ r .refusal) × (now counts′ ≡ r .tally .counts ++ rest)
   adds-for-c section counts counts′ n t r rest wrote is long tally =
@@ -682,3 +730,51 @@ module _ (κ κ′ : Lft) where
       let done = Left.is-patched (now section) (now patch) (now out) (rw (wrote .0) at ok) in
       let both = Patched.accepted (now section) (now patch) (done .0) in
       rw (wrote .0, wrote .1, done .1) (Patching.patches (now section) (now patch) (both .0) (both .1))
+
+  -- An index of a section's calls is refused and changes nothing, or it is in order of target and then of caller, each call once, and holds exactly
+  -- the words whose flow is a call.
+  pub builds : (section index index′ : Slice) (r : Indexed) → BuildsIndex section index r index′ → Builds (now section) (now index) r (now index′)
+  builds section index index′ r is = is
+
+  pub index-of-calls : (section index index′ : Slice) (r : Indexed) → BuildsIndex section index r index′ → r .refusal ≡ 0
+      → Ordered (entriesOf (now index′) (r .count)) × ((e : Entry) → In e (entriesOf (now index′) (r .count)) ↔ IsCall (now section) e)
+  index-of-calls section index index′ r is ok =
+      rw (Indexing.built is ok) (Calling.index-ordered (now section), Calling.holds-exactly (now section))
+
+  -- Replacing a word is refused and changes no byte and no number, or it changes the word's four bytes, and any list handed in gets the same steps.
+  pub replaces : (section section′ index index′ : Slice) (place w count : ℕ) (r : Indexed)
+      → ReplacesWord section place w index count r section′ index′
+      → Replaces (now section) place w (now index) count r (now section′) (now index′)
+  replaces section section′ index index′ place w count r is = is
+
+  pub same-steps : (section section′ index index′ : Slice) (place w count : ℕ) (r : Indexed)
+      → ReplacesWord section place w index count r section′ index′ → r .refusal ≡ 0
+      → entriesOf (now index′) (r .count) ≡ updatedOf (now section) place w (entriesOf (now index) count)
+  same-steps section section′ index index′ place w count r is ok = Indexing.updated is ok
+
+  -- If the index handed in was built from the old words, the updated one equals an index built afresh from the new words.
+  pub as-built-afresh : (section section′ index index′ index″ fresh fresh′ : Slice) (place w : ℕ) (r r₂ r₃ : Indexed)
+      → BuildsIndex section index r index′ → r .refusal ≡ 0
+      → ReplacesWord section place w index′ (r .count) r₂ section′ index″ → r₂ .refusal ≡ 0
+      → BuildsIndex section′ fresh r₃ fresh′ → r₃ .refusal ≡ 0
+      → entriesOf (now index″) (r₂ .count) ≡ entriesOf (now fresh′) (r₃ .count)
+  as-built-afresh section section′ index index′ index″ fresh fresh′ place w r r₂ r₃ was ok is ok₂ new ok₃ =
+      Indexing.afresh is ok₂ (Indexing.built was ok) ∙ sym (Indexing.built new ok₃)
+
+  -- Looking a target up is refused and changes nothing, or it gives its callers in the order of the list, whatever list that is.
+  pub finds : (index out out′ : Slice) (count target : ℕ) (r : Written) → FindsCallers index count target out r out′
+      → (r ≡ foundOf (now index) count target (now out)) × (now out′ ≡ leftOf (now index) count target (now out))
+  finds index out out′ count target r is = is
+
+  -- So these are for C and Rust, with the refusal's number above the count.
+  pub builds-for-c : (section index index′ : Slice) (p : ℕ) → BuildsIndexForC section index p index′
+      → BuildsForC (now section) (now index) p (now index′)
+  builds-for-c section index index′ p is = is
+
+  pub replaces-for-c : (section section′ index index′ : Slice) (place w count p : ℕ) → ReplacesWordForC section place w index count p section′ index′
+      → ReplacesForC (now section) place w (now index) count p (now section′) (now index′)
+  replaces-for-c section section′ index index′ place w count p is = is
+
+  pub finds-for-c : (index out out′ : Slice) (count target p : ℕ) → FindsCallersForC index count target out p out′
+      → FindsForC (now index) count target (now out) p (now out′)
+  finds-for-c index out out′ count target p is = is

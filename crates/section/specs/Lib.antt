@@ -1,3 +1,4 @@
 pub mod Ranges
 pub mod Section
 pub mod Accepted
+pub mod Replaced

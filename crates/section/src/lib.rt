@@ -14,6 +14,7 @@ ghost use lib.ListN.{length};
 ghost use Rattle.section.specs.Ranges.{endOf, follows, rulesHold, isData};
 ghost use Rattle.section.specs.Section.{markedOf, halfAt, versionOf, isKnown, baseOf, rangeCount, startOf, rangeAt, rangesOf, countOf};
 ghost use Rattle.section.specs.Section.{refusalOf, openedOf, hereAt, isEnd, stepOf};
+ghost use Rattle.section.specs.Replaced.{replacedOf, withWord};
 
 /// Mark, version and base: the bytes before the words of version 1.
 const HEADER: usize = 9;
@@ -359,4 +360,27 @@ pub fn read(bytes: &[u8], opened: Opened, place: usize) -> Step
         opened,
         place,
     })
+}
+
+/// What stands at a place where its word is replaced: data stays data.
+pub fn with_word(here: Here, word: u32) -> Here
+    ensures { λ r. ⌜ r ≡ withWord word here ⌝ }
+{
+    match here {
+        Here::Word(_, addr) => Here::Word(word, addr),
+        Here::Data(_, addr) => Here::Data(word, addr),
+        Here::End => Here::End,
+    }
+}
+
+/// Replaces the word at a place.
+pub fn replace(bytes: &mut [u8], opened: Opened, place: usize, word: u32)
+    requires { ⌜ (opened ≡ openedOf (now bytes)) × (place < opened .count) ⌝ }
+    ensures { λ _. ⌜ now (bytes .exit) ≡ replacedOf (now (bytes .entry)) place word ⌝ }
+{
+    let at = opened.start + 4 * place;
+    bytes[at] = (word % 0x100) as u8;
+    bytes[at + 1] = (word / 0x100 % 0x100) as u8;
+    bytes[at + 2] = (word / 0x1_0000 % 0x100) as u8;
+    bytes[at + 3] = (word / 0x100_0000 % 0x100) as u8;
 }

@@ -57,6 +57,10 @@ NO_PLACE = 13
 abbrev pub NO_RUN : ℕ
 NO_RUN = 14
 
+-- "when an index built or updated would hold more than 1,024"
+abbrev pub TOO_MANY_CALLS : ℕ
+TOO_MANY_CALLS = 15
+
 -- "on adding section 65,537"
 abbrev pub TOO_MANY_SECTIONS : ℕ
 TOO_MANY_SECTIONS = 16

@@ -27,7 +27,7 @@ pub const TOO_MANY_WORDS: u8 = 8;
 /// Base not a multiple of 4, or base + 4 x words above 2^32.
 pub const BAD_BASE: u8 = 9;
 
-/// Line, converted section or report longer than the lent buffer.
+/// Line, converted section or report longer than the lent buffer; array lent for an index too short.
 pub const NO_ROOM: u8 = 10;
 
 /// Range list that breaks a rule.
@@ -36,11 +36,14 @@ pub const BAD_RANGES: u8 = 11;
 /// Converting back, with ranges.
 pub const HAS_RANGES: u8 = 12;
 
-/// Entry of a walk that is no place in the section.
+/// Entry of a walk, or place of a word to be replaced, that is no place in the section.
 pub const NO_PLACE: u8 = 13;
 
 /// Run of a patched section that is empty, or that neither section nor patch holds alone.
 pub const NO_RUN: u8 = 14;
+
+/// Index of calls that holds, or would hold, more than 1,024.
+pub const TOO_MANY_CALLS: u8 = 15;
 
 /// Section 65,537 of a tally.
 pub const TOO_MANY_SECTIONS: u8 = 16;
