@@ -19,7 +19,7 @@ extern "C" {
 
 /* The version of this header: 10,000 for each major one, 100 for each minor one, and one for each patch. The major one changes where what is
    here changes, a row or a function, and the minor one where something is added. */
-enum { BRASSDOZEN_VERSION = 30300 };
+enum { BRASSDOZEN_VERSION = 30301 };
 
 /* The version of the library that is linked. */
 uint32_t brassdozen_version(void);
@@ -147,7 +147,7 @@ enum {
    The low 16 bits of the result are the number of records, at most four for each word reached; those above are the number of words reached. A
    section that is not accepted is refused with 5, 6, 7, 8, 9 or 11, as its listing says; else an entry that is no place of it with 13; and
    else, with 10, exactly if the report has more numbers than `length`, three for each record. A refusal changes no number of `records`, and
-   nothing changes one after the report. A call takes about 12 KB of stack. */
+   nothing changes one after the report. A call takes about 2.5 KB of stack. */
 uint64_t brassdozen_walk(const uint8_t *section, size_t bytes, uint32_t entry, uint32_t *records, size_t length);
 
 static inline uint32_t brassdozen_walk_records(uint64_t given) { return (uint32_t)(given & 0xffff); }

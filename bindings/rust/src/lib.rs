@@ -7,7 +7,7 @@
 #![no_std]
 
 /// The version that these declarations are of, as `BRASSDOZEN_VERSION` of the header says it.
-pub const VERSION: u32 = 30_300;
+pub const VERSION: u32 = 30_301;
 
 /// How many numbers a row has.
 pub const ROW: usize = 71;

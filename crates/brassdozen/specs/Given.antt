@@ -26,9 +26,9 @@ use Rattle.patch.specs.declared.Found.the-variants.{Patch, Section, Refused}
 use Rattle.patched.specs.Patched.{patchedGiven}
 use Rattle.insn_row.specs.Row.{ROW, rowOf, numbersOf, holds}
 
--- 3.3.0
+-- 3.3.1
 abbrev pub VERSION : ℕ
-VERSION = 30300
+VERSION = 30301
 
 -- an answer's refusal; or, of an accepted one, 10 if its row is longer than what is lent
 abbrev pub rowRefusal : Decoded → List ℕ → ℕ

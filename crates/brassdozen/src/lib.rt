@@ -41,7 +41,7 @@ ghost use Rattle.brassdozen.specs.Given.{VERSION, rowRefusal, rowLast, e
 pub extern "C" fn brassdozen_version() -> u32
     ensures { λ r. ⌜ r ≡ VERSION ⌝ }
 {
-    30_300
+    30_301
 }
 
 /// Decodes `word` at `addr` into the row of its answer, and gives 0; or gives a refusal's number.

@@ -2,7 +2,7 @@
 use mathlib.Core.Path.{_≡_, refl}
 use mathlib.Core.Bool.{Bool, true, false, not}
 use mathlib.Core.List.{List, [], _∷_, _++_}
-use mathlib.Core.Logic.{inl, inr, ⊎-elim}
+use mathlib.Core.Logic.{_⊎_, inl, inr, ⊎-elim}
 use Prim.Native.Nat.{ℕ, _+_, _<_}
 use borrow.Author.Tests.{ltb-true}
 use lib.Dec.{leb, ltb}
@@ -14,7 +14,12 @@ use Rattle.walk_marks.proofs.Marking.{Below}
 use Rattle.walk_steps.specs.Leads.{leadsAt}
 use Rattle.walk_steps.specs.Steps.{placeOf, isInside, stepsOn, stepsTo, only, stepsFrom, stepsOf}
 use Rattle.walk_steps.specs.declared.Leads.{Leads}
-use Rattle.walk.proofs.Growing.{in-split}
+
+-- what stands in two lists joined
+in-split : (l r : List ℕ) (p : ℕ) → In p (l ++ r) → In p l ⊎ In p r
+in-split [] r p i = inr i
+in-split (x ∷ l) r p (inl e) = inl (inl e)
+in-split (x ∷ l) r p (inr i) = ⊎-elim (λ (a : In p l). inl (inr a)) (λ (b : In p r). inr b) (in-split l r p i)
 
 module _ (o : Opened) where
   pub on-below : (p : ℕ) (l : Leads) → stepsOn o p l ≡ true → p + 1 < o .count

@@ -36,9 +36,9 @@ use Rattle.walk.specs.Walk.{refusalOf, answerOf, Reported, Walks}
 use Rattle.walk.specs.declared.Walked.{Walked}
 use Rattle.walk.specs.Kept.{NoWayOut, IsPlace, GoesOn, KeptFlow, Kept}
 use Rattle.walk.proofs.Aligned.{aligned}
-use Rattle.walk.proofs.Growing.{isset}
+use Rattle.walk.proofs.Following.{isset}
 use Rattle.walk.proofs.Inside.{steps-inside}
-use Rattle.walk.proofs.Listed.{stays-inside}
+use Rattle.walk.proofs.Searched.{stays-inside}
 use Rattle.walk.proofs.Records.{here-is, here-not}
 
 -- a list of records

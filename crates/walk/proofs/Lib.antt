@@ -1,7 +1,7 @@
 -- Facts of the crate that belong to no one function.
 pub mod Chains
-pub mod Growing
-pub mod Listed
+pub mod Following
+pub mod Searched
 pub mod Inside
 pub mod Records
 pub mod Answers

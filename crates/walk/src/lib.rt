@@ -1,8 +1,10 @@
 //! The walk through a section from an entry place, and its report.
 use section::Opened;
 use section::open;
+use walk_marks::first;
 use walk_marks::get;
 use walk_marks::set;
+use walk_marks::unset;
 use walk_steps::Leads;
 use walk_steps::leads_at;
 use walk_steps::leaves;
@@ -13,108 +15,98 @@ use walk_steps::steps_to;
 use word::refusal::NO_PLACE;
 use word::refusal::NO_ROOM;
 ghost use mathlib.Core.Path.{_≡_};
-ghost use mathlib.Core.List.{[], _∷_};
 ghost use mathlib.Core.Bool.{true, false};
 ghost use Prim.Native.Nat.{_+_, _≤_, _<_};
-ghost use lib.ListN.{length, take, getD, set, replicate};
+ghost use lib.ListN.{length, set, replicate};
 ghost use Rattle.text.specs.Fits.{lastOf};
 ghost use Rattle.text.specs.Put.{Room, Put};
 ghost use Rattle.section.specs.Section.{openedOf};
 ghost use Rattle.walk_marks.specs.Marks.{howMany, marksOf};
 ghost use Rattle.walk_steps.specs.Steps.{only, stepsFrom, stepsOf};
 ghost use Rattle.walk.specs.Reached.{Exact};
-ghost use Rattle.walk.specs.Search.{Pushed, Held};
+ghost use Rattle.walk.specs.Search.{Follows, Takes, Held, Next};
 ghost use Rattle.walk.specs.Report.{threeOf, three, waysIn, waysOut, recordsFrom, recordsHere, reportOf};
 ghost use Rattle.walk.specs.Walk.{refusedBy, answerOf, Reported, Walks};
 
-/// Marks the place `q`, if there is such a step, and adds it to the list where the mark is new. The list's new end.
-fn push(reached: &mut [u8], list: &mut [u16], step: bool, q: usize, tail: usize, n: usize) -> usize
-    requires { ⌜ Held (now reached) (now list) n tail × (step ≡ true → q < n) ⌝ }
-    ensures { λ r. ⌜ Held (now (reached .exit)) (now (list .exit)) n r ⌝ }
-    ensures { λ r. ⌜ Pushed (now (reached .entry)) (now (list .entry)) tail (only step q) (now (reached .exit)) (now (list .exit)) r ⌝ }
+/// Marks the place `q`, if there is such a step. Where the mark is new, the place waits to be taken up.
+fn follow(reached: &mut [u32], waiting: &mut [u32], step: bool, q: usize)
+    requires { ⌜ Held (now reached) (now waiting) × (step ≡ true → q < 4096) ⌝ }
+    ensures { λ _. ⌜ Follows (now (reached .entry)) (now (waiting .entry)) (only step q) (now (reached .exit)) (now (waiting .exit)) ⌝ }
 {
     if !step {
-        return tail;
+        return;
     }
     if get(reached, q) {
-        return tail;
+        return;
     }
     set(reached, q);
-    list[tail] = q as u16;
-    tail + 1
+    set(waiting, q);
 }
 
 /// The same for where `leads` leads from `place`.
-fn push_both(
-    reached: &mut [u8],
-    list: &mut [u16],
-    opened: Opened,
-    place: usize,
-    leads: Leads,
-    tail: usize,
-) -> usize
-    requires { ⌜ Held (now reached) (now list) (opened .count) tail × (place < opened .count) ⌝ }
-    ensures { λ r. ⌜ Held (now (reached .exit)) (now (list .exit)) (opened .count) r ⌝ }
-    ensures { λ r. ⌜ Pushed (now (reached .entry)) (now (list .entry)) tail (stepsFrom opened place leads) (now (reached .exit)) (now (list .exit)) r ⌝ }
+fn follow_both(reached: &mut [u32], waiting: &mut [u32], opened: Opened, place: usize, leads: Leads)
+    requires { ⌜ Held (now reached) (now waiting) × (place < opened .count) × (opened .count ≤ 4096) ⌝ }
+    ensures { λ _. ⌜ Follows (now (reached .entry)) (now (waiting .entry)) (stepsFrom opened place leads) (now (reached .exit)) (now (waiting .exit)) ⌝ }
 {
-    let n = opened.count as usize;
     let on = steps_on(opened, place, leads);
-    let tail = push(reached, list, on, place + 1, tail, n);
+    follow(reached, waiting, on, place + 1);
     let to = steps_to(opened, leads);
     let target = place_of(opened, leads.target);
-    push(reached, list, to, target, tail, n)
+    follow(reached, waiting, to, target);
 }
 
-/// Takes up the word at the list's place `head`.
-fn turn(
-    reached: &mut [u8],
-    list: &mut [u16],
-    section: &[u8],
-    opened: Opened,
-    head: usize,
-    tail: usize,
-) -> usize
-    requires { ⌜ Held (now reached) (now list) (opened .count) tail × (opened ≡ openedOf (now section)) ⌝ }
-    requires { ⌜ (head < tail) × (tail ≤ length (now list)) × (getD (now list) head 0 < opened .count) ⌝ }
-    ensures { λ r. ⌜ Held (now (reached .exit)) (now (list .exit)) (opened .count) r ⌝ }
-    ensures { λ r. ⌜ Pushed (now (reached .entry)) (now (list .entry)) tail (stepsOf (now (section .entry)) (getD (now (list .entry)) head 0)) (now (reached .exit)) (now (list .exit)) r ⌝ }
+/// Takes up the word at `place`, which waits no longer.
+fn take_up(reached: &mut [u32], waiting: &mut [u32], section: &[u8], opened: Opened, place: usize)
+    requires { ⌜ Held (now reached) (now waiting) × (place < opened .count) × (opened .count ≤ 4096) ⌝ }
+    requires { ⌜ opened ≡ openedOf (now section) ⌝ }
+    ensures { λ _. ⌜ Takes (now (reached .entry)) (now (waiting .entry)) place (stepsOf (now (section .entry)) place) (now (reached .exit)) (now (waiting .exit)) ⌝ }
 {
-    let place = list[head] as usize;
+    unset(waiting, place);
     let leads = leads_at(section, opened, place);
-    push_both(reached, list, opened, place, leads, tail)
+    follow_both(reached, waiting, opened, place, leads);
 }
 
-/// At first the entry is reached, and alone in the list.
-fn begin(reached: &mut [u8], list: &mut [u16], entry: usize)
-    requires { ⌜ (entry < 4096) × (length (marksOf (now reached)) ≡ 4096) × (length (now list) ≡ 4096) ⌝ }
+/// A place that waits: the first from `place` on, else the first of all. That takes at most 256 looks, one for each number that is zero and one for
+/// each place of one that is not.
+fn next(waiting: &[u32], place: usize) -> usize
+    requires { ⌜ (length (now waiting) ≡ 128) × (place < 4096) ⌝ }
+    ensures { λ r. ⌜ Next (marksOf (now (waiting .entry))) r ⌝ }
+{
+    let at = first(waiting, place);
+    if at < 4096 { at } else { first(waiting, 0) }
+}
+
+/// At first the entry is reached, and waits alone.
+fn begin(reached: &mut [u32], waiting: &mut [u32], entry: usize)
+    requires { ⌜ Held (now reached) (now waiting) × (entry < 4096) ⌝ }
     ensures { λ _. ⌜ marksOf (now (reached .exit)) ≡ set (marksOf (now (reached .entry))) entry true ⌝ }
-    ensures { λ _. ⌜ take 1 (now (list .exit)) ≡ entry ∷ [] ⌝ }
+    ensures { λ _. ⌜ marksOf (now (waiting .exit)) ≡ set (marksOf (now (waiting .entry))) entry true ⌝ }
 {
     set(reached, entry);
-    list[0] = entry as u16;
+    set(waiting, entry);
 }
 
-/// Marks the places that are reached from `entry`, and says how many words it took up.
+/// Marks the places that are reached from `entry`, and says how many words it took up: one in each turn, and each once.
 fn search(
-    reached: &mut [u8],
-    list: &mut [u16],
+    reached: &mut [u32],
+    waiting: &mut [u32],
     section: &[u8],
     opened: Opened,
     entry: usize,
 ) -> usize
     requires { ⌜ (opened ≡ openedOf (now section)) × (opened .count ≤ 4096) × (entry < opened .count) ⌝ }
-    requires { ⌜ (marksOf (now reached) ≡ replicate 4096 false) × (length (now list) ≡ 4096) ⌝ }
-    ensures { λ _. ⌜ Exact (stepsOf (now (section .entry))) entry (marksOf (now (reached .exit))) ⌝ }
-    ensures { λ r. ⌜ (r ≡ howMany (marksOf (now (reached .exit)))) × (length (marksOf (now (reached .exit))) ≡ 4096) ⌝ }
+    requires { ⌜ Held (now reached) (now waiting) × (marksOf (now reached) ≡ replicate 4096 false) × (marksOf (now waiting) ≡ replicate 4096 false) ⌝ }
+    ensures { λ r. ⌜ Exact (stepsOf (now (section .entry))) entry (marksOf (now (reached .exit))) × (r ≡ howMany (marksOf (now (reached .exit)))) ⌝ }
 {
-    begin(reached, list, entry);
-    let mut head = 0;
-    let mut tail = 1;
-    while head < tail {
-        tail = turn(reached, list, section, opened, head, tail);
-        head += 1;
+    begin(reached, waiting, entry);
+    let mut at = entry;
+    let mut words = 0;
+    while at < 4096 {
+        take_up(reached, waiting, section, opened, at);
+        words += 1;
+        at = next(waiting, at);
     }
-    head
+    words
 }
 
 /// One record, if it is there.
@@ -183,12 +175,12 @@ fn records_len(opened: Opened, place: usize, leads: Leads) -> usize
 fn put_here(
     out: &mut [u32],
     at: usize,
-    reached: &[u8],
+    reached: &[u32],
     section: &[u8],
     opened: Opened,
     place: usize,
 ) -> usize
-    requires { ⌜ (opened ≡ openedOf (now section)) × (place < opened .count) × (place < 4096) × (length (marksOf (now reached)) ≡ 4096) ⌝ }
+    requires { ⌜ (opened ≡ openedOf (now section)) × (place < opened .count) × (place < 4096) × (length (now reached) ≡ 128) ⌝ }
     requires { ⌜ Room (now out) at (recordsHere (now section) (marksOf (now reached)) place) ⌝ }
     ensures { λ r. ⌜ Put (now (out .entry)) at (recordsHere (now (section .entry)) (marksOf (now (reached .entry))) place) r (now (out .exit)) ⌝ }
 {
@@ -201,8 +193,8 @@ fn put_here(
 }
 
 /// How many numbers they have.
-fn here_len(reached: &[u8], section: &[u8], opened: Opened, place: usize) -> usize
-    requires { ⌜ (opened ≡ openedOf (now section)) × (place < opened .count) × (place < 4096) × (length (marksOf (now reached)) ≡ 4096) ⌝ }
+fn here_len(reached: &[u32], section: &[u8], opened: Opened, place: usize) -> usize
+    requires { ⌜ (opened ≡ openedOf (now section)) × (place < opened .count) × (place < 4096) × (length (now reached) ≡ 128) ⌝ }
     ensures { λ r. ⌜ r ≡ length (recordsHere (now (section .entry)) (marksOf (now (reached .entry))) place) ⌝ }
 {
     if get(reached, place) {
@@ -214,8 +206,8 @@ fn here_len(reached: &[u8], section: &[u8], opened: Opened, place: usize) -> usi
 }
 
 /// The report, place by place.
-fn put_report(out: &mut [u32], reached: &[u8], section: &[u8], opened: Opened) -> usize
-    requires { ⌜ (opened ≡ openedOf (now section)) × (opened .count ≤ 4096) × (length (marksOf (now reached)) ≡ 4096) ⌝ }
+fn put_report(out: &mut [u32], reached: &[u32], section: &[u8], opened: Opened) -> usize
+    requires { ⌜ (opened ≡ openedOf (now section)) × (opened .count ≤ 4096) × (length (now reached) ≡ 128) ⌝ }
     requires { ⌜ Room (now out) 0 (reportOf (now section) (marksOf (now reached))) ⌝ }
     ensures { λ r. ⌜ Put (now (out .entry)) 0 (reportOf (now (section .entry)) (marksOf (now (reached .entry)))) r (now (out .exit)) ⌝ }
 {
@@ -230,8 +222,8 @@ fn put_report(out: &mut [u32], reached: &[u8], section: &[u8], opened: Opened) -
 }
 
 /// How many numbers it has.
-fn report_len(reached: &[u8], section: &[u8], opened: Opened) -> usize
-    requires { ⌜ (opened ≡ openedOf (now section)) × (opened .count ≤ 4096) × (length (marksOf (now reached)) ≡ 4096) ⌝ }
+fn report_len(reached: &[u32], section: &[u8], opened: Opened) -> usize
+    requires { ⌜ (opened ≡ openedOf (now section)) × (opened .count ≤ 4096) × (length (now reached) ≡ 128) ⌝ }
     ensures { λ r. ⌜ r ≡ length (reportOf (now (section .entry)) (marksOf (now (reached .entry)))) ⌝ }
 {
     let n = opened.count as usize;
@@ -262,8 +254,8 @@ fn refuse(refusal: u8) -> Walked
 }
 
 /// Writes the report to the start of `out`, once it is known to fit.
-fn report(out: &mut [u32], reached: &[u8], section: &[u8], opened: Opened, words: usize) -> Walked
-    requires { ⌜ (opened ≡ openedOf (now section)) × (opened .count ≤ 4096) × (length (marksOf (now reached)) ≡ 4096) ⌝ }
+fn report(out: &mut [u32], reached: &[u32], section: &[u8], opened: Opened, words: usize) -> Walked
+    requires { ⌜ (opened ≡ openedOf (now section)) × (opened .count ≤ 4096) × (length (now reached) ≡ 128) ⌝ }
     ensures { λ r. ⌜ r ≡ answerOf (reportOf (now (section .entry)) (marksOf (now (reached .entry)))) words (now (out .entry)) ⌝ }
     ensures { λ _. ⌜ now (out .exit) ≡ lastOf (reportOf (now (section .entry)) (marksOf (now (reached .entry)))) (now (out .entry)) ⌝ }
 {
@@ -284,9 +276,9 @@ fn found(section: &[u8], opened: Opened, entry: usize, out: &mut [u32]) -> Walke
     requires { ⌜ (opened ≡ openedOf (now section)) × (opened .count ≤ 4096) × (entry < opened .count) ⌝ }
     ensures { λ r. ⌜ Reported (now (section .entry)) entry (now (out .entry)) r (now (out .exit)) ⌝ }
 {
-    let mut reached = [0u8; 4096];
-    let mut list = [0u16; 4096];
-    let words = search(&mut reached, &mut list, section, opened, entry);
+    let mut reached = [0u32; 128];
+    let mut waiting = [0u32; 128];
+    let words = search(&mut reached, &mut waiting, section, opened, entry);
     report(out, &reached, section, opened, words)
 }
 

@@ -1,4 +1,7 @@
 -- Facts of the crate that belong to no one function.
-pub mod Marks
+pub mod Bits
 pub mod Marking
+pub mod Marks
+pub mod Looking
+pub mod Stores
 pub mod Unique

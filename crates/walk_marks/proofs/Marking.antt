@@ -7,7 +7,7 @@ use Prim.Native.Nat.{ℕ, zero, suc, _+_, _≤_, _<_}
 use native.Mathlib.Omega.{arith}
 use borrow.Author.Tests.{eqb-true, eqb-false}
 use lib.Dec.{T, eqb}
-use lib.ListN.{length, getD, set, replicate, length-set, length-replicate}
+use lib.ListN.{length, getD, set, replicate, length-set}
 use lib.Seq.{ext-getD, getD-set-same, getD-set-other, set-getD}
 use Rattle.walk_marks.specs.Marks.{In, Marked, howMany, markAll}
 
@@ -27,7 +27,7 @@ same-test false false f g = refl
 pub same-marks : (m m′ : List Bool) → length m ≡ length m′ → ((p : ℕ) → Marked m p → Marked m′ p) → ((p : ℕ) → Marked m′ p → Marked m p) → m ≡ m′
 same-marks m m′ long f g = ext-getD false m m′ long (λ p h. same-test _ _ (f p) (g p))
 
-same-or-not : (p q : ℕ) → (p ≡ q) ⊎ (p ≡ q → ⊥)
+pub same-or-not : (p q : ℕ) → (p ≡ q) ⊎ (p ≡ q → ⊥)
 same-or-not p q = by-test (eqb p q) (λ e. inl (eqb-true p q e)) (λ e. inr (eqb-false p q e))
 
 -- a place is marked after one is marked exactly if it was, or is that one
@@ -42,9 +42,9 @@ pub set-only : (m : List Bool) (p q : ℕ) → Marked (set m q true) p → (p �
 set-only m p q e =
     ⊎-elim (λ (s : p ≡ q). inl s) (λ (n : p ≡ q → ⊥). inr (sym (getD-set-other m q p true false n) ∙ e)) (same-or-not p q)
 
--- marking again changes nothing
-pub stays : (m : List Bool) (p : ℕ) → Marked m p → m ≡ set m p true
-stays m p e = sym (rw (← e) (set-getD m p false))
+-- setting a mark to what it is changes nothing
+pub stays : (m : List Bool) (p : ℕ) (b : Bool) → getD m p false ≡ b → m ≡ set m p b
+stays m p b e = sym (rw (← e) (set-getD m p false))
 
 pub unmarked : (k p : ℕ) → getD (replicate k false) p false ≡ false
 unmarked zero p = refl
@@ -80,16 +80,17 @@ all-append m [] rs = refl
 all-append m (q ∷ qs) rs = all-append (set m q true) qs rs
 
 -- how many are marked
-pub none-counted : (k : ℕ) → howMany (replicate k false) ≡ 0
-none-counted zero = refl
-none-counted (suc k) = none-counted k
-
 pub count-below : (m : List Bool) → howMany m ≤ length m
 count-below [] = omega arith
 count-below (true ∷ m) = omega (arith, count-below m)
 count-below (false ∷ m) = omega (arith, count-below m)
 
--- a new mark counts one
+pub none-counted : (m : List Bool) → ((p : ℕ) → getD m p false ≡ false) → howMany m ≡ 0
+none-counted [] h = refl
+none-counted (true ∷ m) h = true-false (h 0)
+none-counted (false ∷ m) h = none-counted m (λ p. h (suc p))
+
+-- a new mark counts one, and one that is taken away counts one less
 pub one-more : (m : List Bool) (p : ℕ) → p < length m → getD m p false ≡ false → howMany (set m p true) ≡ howMany m + 1
 one-more [] p h e = absurd (let z : ⊥ = omega arith in z)
 one-more (true ∷ m) zero h e = true-false e
@@ -97,7 +98,9 @@ one-more (false ∷ m) zero h e = omega arith
 one-more (true ∷ m) (suc p) h e = omega (arith, one-more m p (omega arith) e)
 one-more (false ∷ m) (suc p) h e = one-more m p (omega arith) e
 
--- one alone counts one
-pub one-counted : (k p : ℕ) → p < k → howMany (set (replicate k false) p true) ≡ 1
-one-counted k p h =
-    omega (arith, one-more (replicate k false) p (rw (length-replicate k false) h) (unmarked k p), none-counted k)
+pub one-less : (m : List Bool) (p : ℕ) → Marked m p → howMany (set m p false) + 1 ≡ howMany m
+one-less [] p e = true-false (sym e)
+one-less (true ∷ m) zero e = omega arith
+one-less (false ∷ m) zero e = true-false (sym e)
+one-less (true ∷ m) (suc p) e = omega (arith, one-less m p e)
+one-less (false ∷ m) (suc p) e = one-less m p e

@@ -1,16 +1,21 @@
--- Marks on places are a list of booleans, kept in a byte each: 0 is no mark.
+-- Marks on places are a list of booleans, kept "32 to a number, lowest bit first, with unused high bits zero" (02, P13).
 use mathlib.Core.Path.{_≡_}
-use mathlib.Core.Bool.{Bool, true, false, not}
-use mathlib.Core.List.{List, [], _∷_}
+use mathlib.Core.Bool.{Bool, true, false}
+use mathlib.Core.List.{List, [], _∷_, _++_}
 use mathlib.Core.Logic.{_⊎_}
-use Prim.Native.Nat.{ℕ, suc}
+use Prim.Native.Nat.{ℕ, zero, suc, _/_, _%_}
 use lib.Dec.{eqb}
 use lib.ListN.{getD, set}
 
--- the marks that a list of bytes keeps
+-- the k lowest bits of a number, "lowest bit first"
+unfoldable pub bitsOf : ℕ → ℕ → List Bool
+bitsOf zero w = []
+bitsOf (suc k) w = eqb (w % 2) 1 ∷ bitsOf k (w / 2)
+
+-- the marks that a list of numbers keeps, "32 to a number"
 unfoldable pub marksOf : List ℕ → List Bool
 marksOf [] = []
-marksOf (x ∷ xs) = not (eqb x 0) ∷ marksOf xs
+marksOf (w ∷ ws) = bitsOf 32 w ++ marksOf ws
 
 -- a place is marked
 abbrev pub Marked : List Bool → ℕ → Type 0

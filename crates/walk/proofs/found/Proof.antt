@@ -1,9 +1,8 @@
 -- `walk::found` meets its contract. Assumes nothing.
-use mathlib.Core.Path.{ap, _∙_}
-use Prim.Native.Nat.{ℕ}
-use lib.ListN.{length-replicate}
+use mathlib.Core.Path.{refl, ap, _∙_}
+use Prim.Native.Nat.{ℕ, _*_}
 use Rattle.walk_marks.specs.Marks.{marksOf}
-use Rattle.walk_marks.proofs.Marks.{no-marks}
+use Rattle.walk_marks.proofs.Marks.{length-marks, no-marks}
 use Rattle.walk.specs.Report.{reportOf}
 use Rattle.walk.specs.Walk.{answerOf}
 use borrow.Author.Needs.{needs}
@@ -11,7 +10,7 @@ use Rattle.walk.proofs.found.Statement.{statement}
 use Rattle.walk.proofs.found.Tie as tie
 
 search-requires : tie.Need-search-requires
-search-requires c κs = (c .before .before .before .before .pre, (no-marks 4096, length-replicate {A = ℕ} 4096 0))
+search-requires c κs = (c .before .before .before .before .pre, ((refl, refl), no-marks 128, no-marks 128))
 
 returns : tie.Need-returns
 returns c =
@@ -22,10 +21,10 @@ returns c =
     let report-of = reportOf (start .args .section .now) (marksOf (searched .search .last .0)) in
     record {
       marks = marksOf (searched .search .last .0);
-      long = found .1 .1;
+      long = length-marks (searched .search .last .0) ∙ ap (λ (n : ℕ). 32 * n) (searched .search .kept .0);
       exact = found .0;
       answer = report .report .ensures .0
-          ∙ ap (λ (n : ℕ). answerOf report-of n (start .args .out .now)) (found .1 .0);
+          ∙ ap (λ (n : ℕ). answerOf report-of n (start .args .out .now)) (found .1);
       left = report .report .ensures .1;
     }
 

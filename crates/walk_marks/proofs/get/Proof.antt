@@ -1,14 +1,12 @@
 -- `walk_marks::get` meets its contract. Assumes nothing.
-use native.Mathlib.Omega.{arith}
-use Rattle.walk_marks.proofs.Marks.{length-marks, marked}
+use mathlib.Core.Path.{_∙_}
+use borrow.Author.Needs.{needs}
+use Rattle.walk_marks.proofs.Marks.{marked}
 use Rattle.walk_marks.proofs.get.Statement.{statement}
 use Rattle.walk_marks.proofs.get.Tie as tie
 
-shared-slice-read-result : tie.Need-shared-slice-read-result
-shared-slice-read-result c = omega (arith, length-marks (c .before .args .marks .now))
-
 returns : tie.Need-returns
-returns c = marked _ _ (omega (arith, length-marks (c .before .args .marks .now)))
+returns c = c .bit .ensures ∙ marked _ _ (c .before .before .before .pre)
 
 pub get-spec : {M : Type 1} → statement M
-get-spec = tie.close (tie.spec shared-slice-read-result returns)
+get-spec = tie.close (tie.spec (search needs) (search needs) (search needs) (λ c κs. search needs) returns)
