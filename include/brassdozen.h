@@ -1,5 +1,6 @@
-/* Brassdozen for C: a decoder, an encoder and a lister of A32, a walk through it, counts and patches over it and an index of its calls, each
-   function proved to meet the contract that stands here in words. docs/LIBRARY.md says how to build the library, and where its proof ends.
+/* Brassdozen for C: a decoder, an encoder and a lister of A32, a walk through it, counts and patches over it, an index of its calls and its home
+   form, each function proved to meet the contract that stands here in words. docs/LIBRARY.md says how to build the library, and where its proof
+   ends.
 
    Every function returns, for every word, address and content of what it is lent, and does nothing but write to what it is lent without const.
    It keeps nothing, takes nothing but a little stack and may be called by several threads at once.
@@ -19,7 +20,7 @@ extern "C" {
 
 /* The version of this header: 10,000 for each major one, 100 for each minor one, and one for each patch. The major one changes where what is
    here changes, a row or a function, and the minor one where something is added. */
-enum { BRASSDOZEN_VERSION = 30301 };
+enum { BRASSDOZEN_VERSION = 30400 };
 
 /* The version of the library that is linked. */
 uint32_t brassdozen_version(void);
@@ -55,7 +56,8 @@ enum {
     BRASSDOZEN_SECTION = 16907,  /* no section that is accepted has more bytes */
     BRASSDOZEN_REPORT = 49152,   /* no report of a walk has more numbers */
     BRASSDOZEN_TALLY = 171,      /* the numbers of a tally */
-    BRASSDOZEN_INDEX = 2048      /* so many numbers are lent for an index of calls */
+    BRASSDOZEN_INDEX = 2048,     /* so many numbers are lent for an index of calls */
+    BRASSDOZEN_CHANGES = 12288   /* no list of a home form's changes has more numbers */
 };
 
 /* A row: an instruction value as numbers.
@@ -217,6 +219,21 @@ uint64_t brassdozen_replace(uint8_t *section, size_t bytes, uint32_t place, uint
    with 10; else a `count` above 1,024 with 15; and else, with 10, exactly if there are more callers than `room`. A refusal changes no number of
    `out`, and nothing changes one behind the callers. */
 uint64_t brassdozen_callers(const uint32_t *index, size_t length, uint32_t count, uint32_t target, uint32_t *out, size_t room);
+
+/* Puts a section in its home form: each word that is accepted becomes its home word, as brassdozen_home gives it, in place. Words that are refused,
+   data, the header and the ranges keep their bytes, and every line reads as before from the name on. Each word that changed is listed at the start
+   of `changes`, in order, in three numbers: its place, from 0, the word as it was and its home word. What is in its home form already stays as it
+   is, and nothing is listed.
+
+   The low 16 bits of the result are the number of changes, at most 4,096; those above say how many of the old words are of the unindexed form of
+   ldc and stc, P clear, U set and W clear. By Arm's manual the home word of such a word does other work: it writes the base back. All others do
+   what they did. A section that is not accepted is refused with 5, 6, 7, 8, 9 or 11, as its listing says; and else, with 10, exactly if there are
+   more changes than `length` has room for, three numbers each. A refusal changes no byte and no number, and nothing changes a number behind the
+   last change. */
+uint64_t brassdozen_home_form(uint8_t *section, size_t bytes, uint32_t *changes, size_t length);
+
+static inline uint32_t brassdozen_home_form_changes(uint64_t given) { return (uint32_t)(given & 0xffff); }
+static inline uint32_t brassdozen_home_form_unindexed(uint64_t given) { return (uint32_t)given >> 16; }
 
 #ifdef __cplusplus
 }

@@ -547,6 +547,53 @@ static void check_index(void)
     CHECK(brassdozen_replace(many, sizeof many, 1, 0xeb000001, index, BRASSDOZEN_INDEX, 1024) == 1024);
 }
 
+/* A section of version 2 at 8000: bx lr with stray bits, an offset of 0 that is subtracted, a word that is refused, data that would change, ldc
+   of the unindexed form, and a word at home. */
+enum { HOMED = 6, HOMED_BYTES = 19 + 4 * HOMED };
+static const uint32_t homed[HOMED] = {0xe120001e, 0xe5110000, 0xef000000, 0xe120001e, 0xecd00101, 0xe1a00000};
+
+static void check_home_form(void)
+{
+    static const uint32_t right[][3] = {{0, 0xe120001e, 0xe12fff1e}, {1, 0xe5110000, 0xe5910000}, {4, 0xecd00101, 0xecf00101}};
+    enum { NUMBERS = sizeof right / sizeof **right };
+    uint8_t before[HOMED_BYTES] = {'R', 'S', 'X', 2, 0, 0, 0x80, 0, 0, 1, 0, 3, 0, 0, 0, 1, 0, 0, 0}, after[HOMED_BYTES], section[HOMED_BYTES];
+    for (size_t place = 0; place < HOMED; place++)
+        for (size_t byte = 0; byte < 4; byte++)
+            before[19 + 4 * place + byte] = (uint8_t)(homed[place] >> 8 * byte);
+    memcpy(after, before, sizeof after);
+    for (size_t n = 0; n < sizeof right / sizeof *right; n++)
+        for (size_t byte = 0; byte < 4; byte++)
+            after[19 + 4 * right[n][0] + byte] = (uint8_t)(right[n][2] >> 8 * byte);
+
+    uint32_t changes[NUMBERS + 4];
+    for (size_t length = 0; length <= NUMBERS + 4; length++) {
+        memcpy(section, before, sizeof section);
+        memset(changes, UNTOUCHED, sizeof changes);
+        uint64_t given = brassdozen_home_form(section, sizeof section, changes, length);
+        if (length < NUMBERS) {
+            CHECK(brassdozen_refusal(given) == BRASSDOZEN_NO_ROOM && brassdozen_result(given) == 0);
+            CHECK(memcmp(section, before, sizeof section) == 0 && untouched(changes, changes + NUMBERS + 4));
+            continue;
+        }
+        CHECK(brassdozen_refusal(given) == 0);
+        CHECK(brassdozen_home_form_changes(given) == 3 && brassdozen_home_form_unindexed(given) == 1);
+        CHECK(memcmp(section, after, sizeof section) == 0);
+        CHECK(memcmp(changes, right, sizeof right) == 0 && untouched(changes + NUMBERS, changes + NUMBERS + 4));
+        /* Nothing is left to change, so no room is needed. */
+        CHECK(brassdozen_home_form(section, sizeof section, changes, 0) == 0);
+        CHECK(memcmp(section, after, sizeof section) == 0);
+    }
+    memcpy(section, before, sizeof section);
+    memset(changes, UNTOUCHED, sizeof changes);
+    uint64_t given = brassdozen_home_form(section, sizeof section - 1, changes, 0);
+    CHECK(brassdozen_refusal(given) == BRASSDOZEN_BAD_LENGTH && brassdozen_result(given) == 0);
+    section[15] = 0;
+    given = brassdozen_home_form(section, sizeof section, changes, NUMBERS);
+    CHECK(brassdozen_refusal(given) == BRASSDOZEN_BAD_RANGES && brassdozen_result(given) == 0);
+    section[15] = before[15];
+    CHECK(memcmp(section, before, sizeof section) == 0 && untouched(changes, changes + NUMBERS + 4));
+}
+
 int main(void)
 {
     static uint8_t words[4 * 4096];
@@ -578,6 +625,7 @@ int main(void)
     check_tally();
     check_patched();
     check_index();
+    check_home_form();
     CHECK(brassdozen_version() == BRASSDOZEN_VERSION);
     uint64_t nothing = 0;
     CHECK(brassdozen_refusal(brassdozen_encode(&nothing, 0)) == BRASSDOZEN_NO_WORD);

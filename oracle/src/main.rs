@@ -16,6 +16,8 @@ mod damaged_section;
 mod digest;
 mod excepted;
 mod home;
+mod home_form;
+mod home_forms;
 mod indexes;
 mod line;
 mod load;
@@ -76,6 +78,7 @@ modes of the oracle (numbers are hexadecimal, but COUNT, SEED and ENTRY; no SET 
   tallies COUNT SEED FILE ..  has it count over the sections in the files and made-up ones
   patches COUNT SEED   has the proved code look up runs of patched sections, and write these
   indexes COUNT SEED   has the proved code index the calls of as many sections, and replace words
+  homes COUNT SEED FILE ..  has the proved code put the files and as many others in home form
   SET                  FIRST COUNT, 'branches', or 'coprocessors'";
 
 fn main() -> ExitCode {
@@ -151,6 +154,16 @@ fn run(arguments: &[&str]) -> Result<ExitCode, String> {
             println!("{tally}\n{failures} failures");
             return Ok(success_if(failures == 0));
         }
+        ["homes", count, seed, files @ ..] => {
+            let files: Vec<_> = files
+                .iter()
+                .map(|file| read(file))
+                .collect::<Result<_, _>>()?;
+            let (count, seed) = (decimal(count)?, decimal(seed)?);
+            let (tally, failures) = home_forms::home_forms(proved()?, &files, count, seed);
+            println!("{tally}\n{failures} failures");
+            return Ok(success_if(failures == 0));
+        }
         _ => return Err(USAGE.to_string()),
     }
     Ok(ExitCode::SUCCESS)
@@ -174,11 +187,15 @@ fn decimal(text: &str) -> Result<u64, String> {
         .map_err(|why| format!("'{text}' in base ten: {why}"))
 }
 
+fn read(file: &str) -> Result<Vec<u8>, String> {
+    fs::read(file).map_err(|why| format!("{file}: {why}"))
+}
+
 /// Prints the listing of the section in each file, after the file's name.
 fn each_file(files: &[&str]) -> Result<(), String> {
     let mut oracle = Oracle::new();
     for file in files {
-        let input = fs::read(file).map_err(|why| format!("{file}: {why}"))?;
+        let input = read(file)?;
         print!("{file}:\n{}", section::program_listing(&mut oracle, &input));
     }
     Ok(())
@@ -187,7 +204,7 @@ fn each_file(files: &[&str]) -> Result<(), String> {
 /// Prints the report of a walk from each entry, a record a line, after the entry.
 fn each_walk(file: &str, entries: &[&str]) -> Result<(), String> {
     let mut oracle = Oracle::new();
-    let section = fs::read(file).map_err(|why| format!("{file}: {why}"))?;
+    let section = read(file)?;
     for entry in entries {
         let place = decimal(entry)?.try_into();
         let place = place.map_err(|_| format!("'{entry}' has more than 32 bits"))?;

@@ -45,6 +45,9 @@ pub struct Proved {
         fn(section: &mut [u8], place: u32, word: u32, index: &mut [u32], count: u32) -> u64,
     /// Writes the callers of a target. Gives the same, with their number.
     pub callers: fn(index: &[u32], count: u32, target: u32, out: &mut [u32]) -> u64,
+    /// Puts a section in its home form and writes its changes to the start of `changes`. Gives what
+    /// `Coded::of` reads, with their number in the word's lower half and of the unindexed in its upper.
+    pub home_form: fn(section: &mut [u8], changes: &mut [u32]) -> u64,
 }
 
 /// What encoding gives: a word beside no refusal, or a refusal's number beside word 0.
@@ -103,6 +106,7 @@ pub const PROVED: Option<Proved> = Some(Proved {
     index: linked::index,
     replace: linked::replace,
     callers: linked::callers,
+    home_form: linked::home_form,
 });
 
 #[cfg(not(proved))]
@@ -176,6 +180,12 @@ mod linked {
             target: u32,
             out: *mut u32,
             room: usize,
+        ) -> u64;
+        fn brassdozen_home_form(
+            section: *mut u8,
+            bytes: usize,
+            changes: *mut u32,
+            numbers: usize,
         ) -> u64;
     }
 
@@ -267,5 +277,11 @@ mod linked {
         let (numbers, length) = (index.as_ptr(), index.len());
         let (callers, room) = (out.as_mut_ptr(), out.len());
         unsafe { brassdozen_callers(numbers, length, count, target, callers, room) }
+    }
+
+    pub fn home_form(section: &mut [u8], changes: &mut [u32]) -> u64 {
+        let (bytes, size) = (section.as_mut_ptr(), section.len());
+        let (numbers, length) = (changes.as_mut_ptr(), changes.len());
+        unsafe { brassdozen_home_form(bytes, size, numbers, length) }
     }
 }

@@ -1,5 +1,5 @@
 //! Brassdozen for Rust: a decoder, an encoder and a lister of A32, a walk through it, counts and
-//! patches over it and an index of its calls, proved to meet their contracts.
+//! patches over it, an index of its calls and its home form, proved to meet their contracts.
 //!
 //! Each function here is safe and calls one of `include/brassdozen.h`, which has its contract in
 //! words, and the layout of a row.
@@ -7,7 +7,7 @@
 #![no_std]
 
 /// The version that these declarations are of, as `BRASSDOZEN_VERSION` of the header says it.
-pub const VERSION: u32 = 30_301;
+pub const VERSION: u32 = 30_400;
 
 /// How many numbers a row has.
 pub const ROW: usize = 71;
@@ -29,6 +29,9 @@ pub const TALLY: usize = 171;
 
 /// So many numbers are lent for an index of calls.
 pub const INDEX: usize = 2_048;
+
+/// No list of a home form's changes has more numbers.
+pub const CHANGES: usize = 12_288;
 
 /// The number of a refusal.
 #[derive(Debug, Clone, Copy, PartialEq, Eq)]
@@ -350,6 +353,27 @@ pub fn callers(
     given(number).map(|count| count as usize)
 }
 
+/// How many words a home form changed.
+#[derive(Debug, Clone, Copy, PartialEq, Eq)]
+pub struct Changes {
+    /// The number of changes, of three numbers each: a place, the old word and the new word.
+    pub words: usize,
+    /// Those of the unindexed form of ldc and stc: by Arm's manual their home words do other work.
+    pub unindexed: usize,
+}
+
+/// Puts a section in its home form, each accepted word its home word, and writes the changes to the
+/// start of `changes`. A refusal changes nothing.
+pub fn home_form(section: &mut [u8], changes: &mut [u32]) -> Result<Changes, Refusal> {
+    let (bytes, size) = (section.as_mut_ptr(), section.len());
+    let (numbers, length) = (changes.as_mut_ptr(), changes.len());
+    let number = unsafe { foreign::brassdozen_home_form(bytes, size, numbers, length) };
+    given(number).map(|both| Changes {
+        words: (both & 0xffff) as usize,
+        unindexed: (both >> 16) as usize,
+    })
+}
+
 /// A count of calls as it crosses the call: one that 32 bits do not hold is refused as any other that
 /// is too large.
 fn number_of(count: usize) -> u32 {
@@ -463,6 +487,12 @@ mod foreign {
             target: u32,
             out: *mut u32,
             room: usize,
+        ) -> u64;
+        pub fn brassdozen_home_form(
+            section: *mut u8,
+            bytes: usize,
+            changes: *mut u32,
+            length: usize,
         ) -> u64;
     }
 }

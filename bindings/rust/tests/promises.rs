@@ -6,9 +6,9 @@ use std::fs;
 use std::path::PathBuf;
 
 use brassdozen::{
-    INDEX, LINE, LISTING, REPORT, ROW, Refusal, SECTION, TALLY, VERSION, Walk, callers, count,
-    decode, decode_bytes, encode, encode_zeros, home, home_zeros, index, kind, line, listing,
-    patched, replace, run, tally, to_v1, to_v2, version, walk,
+    CHANGES, Changes, INDEX, LINE, LISTING, REPORT, ROW, Refusal, SECTION, TALLY, VERSION, Walk,
+    callers, count, decode, decode_bytes, encode, encode_zeros, home, home_form, home_zeros, index,
+    kind, line, listing, patched, replace, run, tally, to_v1, to_v2, version, walk,
 };
 
 /// What a buffer holds before a call.
@@ -1222,4 +1222,83 @@ fn an_index_is_refused_in_order() {
         index(&section_1(0, &[0xeb00_0000; 1024]), &mut array),
         Ok(1024)
     );
+}
+
+/// Each accepted word that is no data becomes what `home` gives, those that change are listed, and a
+/// second run changes nothing.
+#[test]
+fn a_home_form_has_every_word_at_home() {
+    let random = &mut Random(0x40e);
+    let mut seen = Changes {
+        words: 0,
+        unindexed: 0,
+    };
+    for _ in 0..2_000 {
+        let (base, words, ranges) = random_section(random);
+        let is_data = |place: u32| {
+            let mut ranges = ranges.iter();
+            ranges.any(|&(first, count)| first <= place && place < first + count)
+        };
+        let mut after = words.clone();
+        let mut list = Vec::new();
+        for (place, word) in (0..).zip(&mut after) {
+            let new = home(*word).unwrap_or(*word);
+            if !is_data(place) && new != *word {
+                list.extend([place, *word, new]);
+                *word = new;
+            }
+        }
+        let old = list.chunks(3).map(|change| change[1]);
+        let right = Changes {
+            words: list.len() / 3,
+            // 27:24 = 1100, U set and W clear
+            unindexed: old.filter(|word| word & 0x0fa0_0000 == 0x0c80_0000).count(),
+        };
+        seen.words += right.words;
+        seen.unindexed += right.unindexed;
+        let (before, after) = (
+            section_2(base, &ranges, &words),
+            section_2(base, &ranges, &after),
+        );
+        for room in [0, list.len().saturating_sub(1), list.len(), CHANGES] {
+            let mut section = before.clone();
+            let mut changes = vec![UNTOUCHED_PART; room];
+            let given = home_form(&mut section, &mut changes);
+            let written = if room < list.len() {
+                assert_eq!(given, Err(Refusal::NO_ROOM), "{room}");
+                assert_eq!(section, before);
+                0
+            } else {
+                assert_eq!(given, Ok(right), "{room}");
+                assert_eq!(section, after);
+                assert_eq!(changes[..list.len()], list);
+                list.len()
+            };
+            let rest = &changes[written..];
+            assert!(rest.iter().all(|&part| part == UNTOUCHED_PART), "{room}");
+        }
+        let mut section = after.clone();
+        let nothing = Changes {
+            words: 0,
+            unindexed: 0,
+        };
+        assert_eq!(home_form(&mut section, &mut []), Ok(nothing));
+        assert_eq!(section, after);
+    }
+    assert!(seen.words > 1_000 && seen.unindexed > 10, "{seen:?}");
+}
+
+#[test]
+fn a_section_that_is_refused_has_no_home_form() {
+    let refused = [
+        (&b"RSX"[..], Refusal::BAD_LENGTH),
+        (b"RSY\x01\x00\x00\x80\x00\x00", Refusal::BAD_MARK),
+        (b"RSX\x03\x00\x00\x80\x00\x00", Refusal::BAD_VERSION),
+        (b"RSX\x01\x00\x01\x80\x00\x00", Refusal::BAD_BASE),
+    ];
+    for (bytes, refusal) in refused {
+        let (mut section, mut changes) = (bytes.to_vec(), [UNTOUCHED_PART; 3]);
+        assert_eq!(home_form(&mut section, &mut changes), Err(refusal));
+        assert_eq!((section.as_slice(), changes), (bytes, [UNTOUCHED_PART; 3]));
+    }
 }

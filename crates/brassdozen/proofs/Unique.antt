@@ -6,6 +6,7 @@ use denote.Ref.{now}
 use Rattle.word.specs.Only.{Only}
 use Rattle.word_packed.specs.Packed.{packed}
 use Rattle.callers.specs.declared.Indexed.{Indexed}
+use Rattle.home_form.specs.declared.Changed.{Changed}
 use Rattle.walk.specs.declared.Walked.{Walked}
 use Rattle.walk.proofs.Unique.{walks-only}
 use Rattle.brassdozen.proofs.brassdozen_version.Reads as version
@@ -24,6 +25,7 @@ use Rattle.brassdozen.proofs.brassdozen_patched.Reads as patched
 use Rattle.brassdozen.proofs.brassdozen_index.Reads as index
 use Rattle.brassdozen.proofs.brassdozen_replace.Reads as replace
 use Rattle.brassdozen.proofs.brassdozen_callers.Reads as callers
+use Rattle.brassdozen.proofs.brassdozen_home_form.Reads as home-form
 use Rattle.brassdozen.proofs.brassdozen_to_v1.Reads as to-v1
 use Rattle.brassdozen.proofs.brassdozen_to_v2.Reads as to-v2
 
@@ -97,3 +99,12 @@ replace-only κs a r r′ s s′ p q =
 pub callers-only : (κs : _) (a : _) (r r′ : _) (s s′ : _) → callers.Post κs a r s → callers.Post κs a r′ s′
     → (r ≡ r′) × (now (s .1 .1 .1 .0) ≡ now (s′ .1 .1 .1 .0))
 callers-only κs a r r′ s s′ p q = (p .given ∙ sym (q .given), p .left ∙ sym (q .left))
+
+pub home-form-only : (κs : _) (a : _) (r r′ : _) (s s′ : _) → home-form.Post κs a r s → home-form.Post κs a r′ s′
+    → (r ≡ r′) × (now (s .0) ≡ now (s′ .0)) × (now (s .1 .0) ≡ now (s′ .1 .0))
+home-form-only κs a r r′ s s′ p q =
+    let same = p .puts .answer ∙ sym (q .puts .answer) in (
+      p .given ∙ ap (λ (c : Changed). packed (c .refusal) (2 ^ 16 * c .unindexed + c .changes)) same ∙ sym (q .given),
+      p .puts .bytes ∙ sym (q .puts .bytes),
+      p .puts .left ∙ sym (q .puts .left),
+    )

@@ -19,6 +19,8 @@ use Rattle.section_convert.specs.declared.Target.{Target}
 use Rattle.callers_index.specs.Entries.{foundOf, leftOf}
 use Rattle.callers.specs.Index.{Builds, Replaces}
 use Rattle.callers.specs.declared.Indexed.{Indexed}
+use Rattle.home_form.specs.HomeForm.{PutsHome}
+use Rattle.home_form.specs.declared.Changed.{Changed}
 use Rattle.walk.specs.Walk.{Walks}
 use Rattle.walk.specs.declared.Walked.{Walked}
 use Rattle.patch.specs.declared.Found.{Found}
@@ -26,9 +28,9 @@ use Rattle.patch.specs.declared.Found.the-variants.{Patch, Section, Refused}
 use Rattle.patched.specs.Patched.{patchedGiven}
 use Rattle.insn_row.specs.Row.{ROW, rowOf, numbersOf, holds}
 
--- 3.3.1
+-- 3.4.0
 abbrev pub VERSION : ℕ
-VERSION = 30301
+VERSION = 30400
 
 -- an answer's refusal; or, of an accepted one, 10 if its row is longer than what is lent
 abbrev pub rowRefusal : Decoded → List ℕ → ℕ
@@ -96,3 +98,10 @@ pub record ReplacesForC (s : List ℕ) (place w : ℕ) (index : List ℕ) (count
 pub record FindsForC (index : List ℕ) (count target : ℕ) (out : List ℕ) (r : ℕ) (out′ : List ℕ) : Type 0 where
   pub given : r ≡ packed (foundOf index count target out .refusal) (foundOf index count target out .len)
   pub left : out′ ≡ leftOf index count target out
+
+-- what putting a section in its home form gives and leaves: the number of changes, above 16 bits those of the unindexed form, above 32 a refusal's
+-- number
+pub record PutsHomeForC (s list : List ℕ) (r : ℕ) (s′ list′ : List ℕ) : Type 0 where
+  pub changed : Changed
+  pub puts : PutsHome s list changed s′ list′
+  pub given : r ≡ packed (changed .refusal) (2 ^ 16 * changed .unindexed + changed .changes)

@@ -8,6 +8,7 @@ use callers_index::callers;
 use encode::home_with;
 use encode_home::Filler;
 use encode_words::filled_word;
+use home_form::home_form;
 use insn::Decoded;
 use insn_row::is_row;
 use insn_row::put_row;
@@ -33,7 +34,7 @@ ghost use Rattle.tally.specs.Tally.{ownOf, lentRefusal, lentLast};
 ghost use Rattle.patch.specs.Image.{_from_};
 ghost use Rattle.patch.specs.Run.{foundOf};
 ghost use Rattle.patched.specs.Patched.{patchedLeft};
-ghost use Rattle.brassdozen.specs.Given.{WalksForC, foundForC, patchedFor, BuildsForC, ReplacesForC, FindsForC};
+ghost use Rattle.brassdozen.specs.Given.{WalksForC, foundForC, patchedFor, BuildsForC, ReplacesForC, FindsForC, PutsHomeForC};
 ghost use Rattle.brassdozen.specs.Given.{VERSION, rowRefusal, rowLast, encodedOf, homedOf, writtenOf, convertedTo};
 
 /// The library's version: 10,000 for each major one, 100 for each minor one, and one for each patch.
@@ -41,7 +42,7 @@ ghost use Rattle.brassdozen.specs.Given.{VERSION, rowRefusal, rowLast, e
 pub extern "C" fn brassdozen_version() -> u32
     ensures { λ r. ⌜ r ≡ VERSION ⌝ }
 {
-    30_301
+    30_400
 }
 
 /// Decodes `word` at `addr` into the row of its answer, and gives 0; or gives a refusal's number.
@@ -250,4 +251,17 @@ pub extern "C" fn brassdozen_callers(index: &[u32], count: u32, target: u32, out
 {
     let found = callers(index, count as usize, target, out);
     pack(found.refusal, found.len as u32)
+}
+
+/// Puts `section` in its home form and lists its changes, of three numbers each. Gives how many there are, above that how many were of the unindexed
+/// form of ldc and stc, and a refusal's number above both.
+#[no_mangle]
+pub extern "C" fn brassdozen_home_form(section: &mut [u8], changes: &mut [u32]) -> u64
+    ensures { λ r. ⌜ PutsHomeForC (now (section .entry)) (now (changes .entry)) r (now (section .exit)) (now (changes .exit)) ⌝ }
+{
+    let put = home_form(section, changes);
+    pack(
+        put.refusal,
+        0x1_0000 * put.unindexed as u32 + put.changes as u32,
+    )
 }

@@ -1,10 +1,10 @@
 -- What is promised, on one page, of the contracts that the code is proved to meet: that every input is taken without fault, that the decoder follows
 -- the manual, that different work has different answers, and what stands beside these. Each statement is proved in a line or two from those that
 -- docs/THEOREMS.md lists. Assumes nothing.
-use mathlib.Core.Path.{_≡_, refl, ap, sym, _∙_}
+use mathlib.Core.Path.{_≡_, refl, ap, sym, subst, _∙_}
 use mathlib.Core.Bool.{true, false, not}
 use mathlib.Core.List.{List, [], _∷_, _++_, map, List·Permᴰ}
-use mathlib.Core.Logic.{_↔_}
+use mathlib.Core.Logic.{_↔_, _⊎_}
 use Prim.Native.Nat.{ℕ, _+_, _*_, _^_, _<_, _≤_}
 use borrow.Author.Tests.{ne-eqb, lt-ltb, le-ltb}
 use base.Fml.{Lft}
@@ -30,7 +30,7 @@ use Rattle.section.specs.declared.Opened.{Opened}
 use Rattle.section_convert.specs.Convert.{numberOf, ownOf, convertedOf, conversionRefusal}
 use Rattle.section_convert.specs.declared.Target.{Target}
 use Rattle.section_convert.specs.declared.Target.the-variants.{One, Two}
-use Rattle.text.specs.Text.{bytes, decimalOf, hexOf}
+use Rattle.text.specs.Text.{bytes, decimalOf, hexOf, written}
 use Rattle.text.specs.declared.Written.{Written}
 use Rattle.line_spelling.specs.Line.{answerText, lineText}
 use Rattle.listing_text.specs.Listing.{dataLine, lineHere, namedHere, refusedHere, dataHere, total, closingOf, listingOf}
@@ -40,6 +40,12 @@ use Rattle.callers_index.specs.declared.Entry.{Entry}
 use Rattle.callers.specs.Calls.{IsCall}
 use Rattle.callers.specs.Index.{updatedOf, Builds, Replaces}
 use Rattle.callers.specs.declared.Indexed.{Indexed}
+use Rattle.home_form.specs.Changes.{changesOf, numbersOf, isUnindexed, unindexedAmong}
+use Rattle.home_form.specs.HomeForm.{PutsHome}
+use Rattle.home_form.specs.Kept.{Bytes, Stays, Differs, Ascending}
+use Rattle.home_form.specs.Kept as Changes
+use Rattle.home_form.specs.declared.Change.{Change}
+use Rattle.home_form.specs.declared.Changed.{Changed}
 use Rattle.walk_steps.specs.Steps.{stepsOf}
 use Rattle.walk.specs.Reached.{Reached}
 use Rattle.walk.specs.Walk.{Walks}
@@ -60,11 +66,11 @@ use Rattle.promises_predicated.specs.Predicated.{under}
 use Rattle.manual.specs.A5.{tableRow}
 use Rattle.manual.specs.A8.{rowOf as pageOf}
 use Rattle.manual.specs.ShouldBe.{asDrawn}
-use Rattle.manual_drawn.specs.HomeReads.{SaidAs, homely, saidAt}
+use Rattle.manual_drawn.specs.HomeReads.{SaidAs, homely, saidAt, unmarked}
 use Rattle.manual.specs.Stands.{Stands, inRange}
 use Rattle.manual_drawn.specs.Exceptions.{excepted}
 use Rattle.insn_row.specs.Row.{rowOf}
-use Rattle.brassdozen.specs.Given.{Answers, WalksForC, foundForC, BuildsForC, ReplacesForC, FindsForC}
+use Rattle.brassdozen.specs.Given.{Answers, WalksForC, foundForC, BuildsForC, ReplacesForC, FindsForC, PutsHomeForC}
 use Rattle.a32.proofs.decode as decode
 use Rattle.a32.proofs.decode_bytes as decode-bytes
 use Rattle.encode.proofs.encode as encode
@@ -84,6 +90,7 @@ use Rattle.patched.proofs.patched as patched
 use Rattle.callers.proofs.build as build
 use Rattle.callers.proofs.replace as replace
 use Rattle.callers_index.proofs.callers as callers
+use Rattle.home_form.proofs.home_form as home-form
 use Rattle.brassdozen.proofs.brassdozen_version as c-version
 use Rattle.brassdozen.proofs.brassdozen_decode as c-decode
 use Rattle.brassdozen.proofs.brassdozen_decode_bytes as c-decode-bytes
@@ -102,6 +109,7 @@ use Rattle.brassdozen.proofs.brassdozen_patched as c-patched
 use Rattle.brassdozen.proofs.brassdozen_index as c-index
 use Rattle.brassdozen.proofs.brassdozen_replace as c-replace
 use Rattle.brassdozen.proofs.brassdozen_callers as c-callers
+use Rattle.brassdozen.proofs.brassdozen_home_form as c-home-form
 use Rattle.a32_elsewhere.proofs.Elsewhere as Elsewhere
 use Rattle.a32_refusals.proofs.Refusals as Refusals
 use Rattle.encode_home.proofs.Same as Same
@@ -111,6 +119,8 @@ use Rattle.section.proofs.Places as Places
 use Rattle.section_convert.proofs.Converts as Conversion
 use Rattle.callers.proofs.Built as Calling
 use Rattle.callers.proofs.Left as Indexing
+use Rattle.home_form.proofs.Kept as HomeForms
+use Rattle.home_form.proofs.Left as Homing
 use Rattle.walk.proofs.Kept as Walking
 use Rattle.tally.proofs.Answers as Answered
 use Rattle.tally.proofs.Lent as Lent
@@ -133,6 +143,7 @@ use Rattle.listing_text.proofs.Example as Listed
 use Rattle.brassdozen.proofs.Back as Back
 use Rattle.brassdozen.proofs.Exactly as Exactly
 use Rattle.promises.proofs.Left as Left
+use Rattle.promises.proofs.Unindexed as Unindexed
 
 -- a word has 32 bits
 abbrev Word : ℕ → Type 0
@@ -244,6 +255,9 @@ module _ (κ κ′ : Lft) where
   FindsCallers index count target out r out′ =
       callers.Reads.Post (κ, (κ′, tt)) (index, (count, (target, (out, tt)))) r (index, (count, (target, (out′, tt))))
 
+  abbrev PutsInHomeForm : (section list : Slice) → Changed → (section′ list′ : Slice) → Type 0
+  PutsInHomeForm section list r section′ list′ = home-form.Reads.Post (κ, (κ′, tt)) (section, (list, tt)) r (section′, (list′, tt))
+
   -- and those for C and Rust
 
   abbrev DecodesToRow : (w addr : ℕ) (row : Slice) → ℕ → (row′ : Slice) → Type 0
@@ -295,6 +309,9 @@ module _ (κ κ′ : Lft) where
   FindsCallersForC index count target out p out′ =
       c-callers.Reads.Post (κ, (κ′, tt)) (index, (count, (target, (out, tt)))) p (index, (count, (target, (out′, tt))))
 
+  abbrev PutsInHomeFormForC : (section list : Slice) → ℕ → (section′ list′ : Slice) → Type 0
+  PutsInHomeFormForC section list p section′ list′ = c-home-form.Reads.Post (κ, (κ′, tt)) (section, (list, tt)) p (section′, (list′, tt))
+
   -- 1. Taken without fault.
 
   -- Every function takes every input.
@@ -318,6 +335,7 @@ module _ (κ κ′ : Lft) where
       × Taken build.Statement.statement build.Reads.Asked
       × Taken replace.Statement.statement replace.Reads.Asked
       × Taken callers.Statement.statement callers.Reads.Asked
+      × Taken home-form.Statement.statement home-form.Reads.Asked
       × Taken c-version.Statement.statement c-version.Reads.Asked
       × Taken c-decode.Statement.statement c-decode.Reads.Asked
       × Taken c-decode-bytes.Statement.statement c-decode-bytes.Reads.Asked
@@ -336,6 +354,7 @@ module _ (κ κ′ : Lft) where
       × Taken c-index.Statement.statement c-index.Reads.Asked
       × Taken c-replace.Statement.statement c-replace.Reads.Asked
       × Taken c-callers.Statement.statement c-callers.Reads.Asked
+      × Taken c-home-form.Statement.statement c-home-form.Reads.Asked
   taken = (
     (λ M. decode.Met.met, λ κs a. tt),
     (λ M. decode-bytes.Met.met, λ κs a. tt),
@@ -356,6 +375,7 @@ module _ (κ κ′ : Lft) where
     (λ M. build.Met.met, λ κs a. tt),
     (λ M. replace.Met.met, λ κs a. tt),
     (λ M. callers.Met.met, λ κs a. tt),
+    (λ M. home-form.Met.met, λ κs a. tt),
     (λ M. c-version.Met.met, λ κs a. tt),
     (λ M. c-decode.Met.met, λ κs a. tt),
     (λ M. c-decode-bytes.Met.met, λ κs a. tt),
@@ -374,6 +394,7 @@ module _ (κ κ′ : Lft) where
     (λ M. c-index.Met.met, λ κs a. tt),
     (λ M. c-replace.Met.met, λ κs a. tt),
     (λ M. c-callers.Met.met, λ κs a. tt),
+    (λ M. c-home-form.Met.met, λ κs a. tt),
   )
 
   -- Fewer than four bytes are refused with 1; of more, the first four are decoded, low byte first.
@@ -778,3 +799,52 @@ module _ (κ κ′ : Lft) where
   pub finds-for-c : (index out out′ : Slice) (count target p : ℕ) → FindsCallersForC index count target out p out′
       → FindsForC (now index) count target (now out) p (now out′)
   finds-for-c index out out′ count target p is = is
+
+  -- Putting a section in its home form is refused and changes nothing, or each accepted word becomes its home word and the changes are listed.
+  pub puts-home : (section section′ list list′ : Slice) (r : Changed) → PutsInHomeForm section list r section′ list′
+      → PutsHome (now section) (now list) r (now section′) (now list′)
+  puts-home section section′ list list′ r is = is
+
+  pub puts-home-for-c : (section section′ list list′ : Slice) (p : ℕ) → PutsInHomeFormForC section list p section′ list′
+      → PutsHomeForC (now section) (now list) p (now section′) (now list′)
+  puts-home-for-c section section′ list list′ p is = is
+
+  -- The section is still accepted, with the same version, base and count, and the same bytes before its words: the header and the ranges.
+  pub still-accepted : (section section′ list list′ : Slice) (r : Changed) → PutsInHomeForm section list r section′ list′ → r .refusal ≡ 0
+      → (openedOf (now section′) ≡ openedOf (now section))
+      × (take (openedOf (now section) .start) (now section′) ≡ take (openedOf (now section) .start) (now section))
+  still-accepted section section′ list list′ r is ok = (Homing.still-opens is ok, Homing.still-headed is ok)
+
+  -- Each place reads as before: a word has become its home word, with the same answer at the same address, and data is the same.
+  pub reads-as-before : (section section′ list list′ : Slice) (r : Changed) → PutsInHomeForm section list r section′ list′ → r .refusal ≡ 0
+      → Bytes (now section) → (p : ℕ) → Stays (hereOf (now section) p) (hereOf (now section′) p)
+  reads-as-before section section′ list list′ r is ok bytes = Homing.still-reads is ok bytes
+
+  -- The list has exactly the places where old and new words differ, in order, and at its start stand their numbers; both counts are those of the list.
+  pub lists-exactly : (section section′ list list′ : Slice) (r : Changed) → PutsInHomeForm section list r section′ list′ → r .refusal ≡ 0
+      → Bytes (now section)
+      → ((c : Change) → Changes.In c (changesOf (now section)) ↔ Differs (now section) (now section′) c)
+      × Ascending (changesOf (now section))
+      × (now list′ ≡ written (now list) 0 (numbersOf (changesOf (now section))))
+      × (r ≡ record { refusal = 0; changes = length (changesOf (now section)); unindexed = unindexedAmong (changesOf (now section)) })
+  lists-exactly section section′ list list′ r is ok bytes = (
+    Homing.differ is ok bytes,
+    HomeForms.ascending (now section),
+    Homing.list-is is ok,
+    Homing.answer-is is ok,
+  )
+
+  -- A second run changes nothing and lists nothing, whatever list is lent.
+  pub second-run : (section section′ list list′ again list₂ again′ list₂′ : Slice) (r r₂ : Changed)
+      → PutsInHomeForm section list r section′ list′ → r .refusal ≡ 0 → Bytes (now section)
+      → now again ≡ now section′ → PutsInHomeForm again list₂ r₂ again′ list₂′
+      → (r₂ ≡ record { refusal = 0; changes = 0; unindexed = 0 }) × (now again′ ≡ now again) × (now list₂′ ≡ now list₂)
+  second-run section section′ list list′ again list₂ again′ list₂′ r r₂ is ok bytes same next =
+      let done = Homing.stays-so is ok bytes (subst (λ (s : List ℕ). PutsHome s (now list₂) r₂ (now again′) (now list₂′)) same next) in
+      (done .0, done .1 ∙ sym same, done .2)
+
+  -- By the manual, too: what it says of a changed word it says of the new word, but for the mark of minus zero, if the word is not of the unindexed
+  -- form of a coprocessor's load or store.
+  pub same-work-at-home : (w addr : ℕ) (d : Decoded) → Word w → Decodes w addr d → Accepts d → isUnindexed w ≡ false
+      → (saidAt w addr ≡ saidAt (homeOf Manual w) addr) ⊎ (unmarked (saidAt w addr) ≡ saidAt (homeOf Manual w) addr)
+  same-work-at-home w addr d bound is ok = Unindexed.said-alike w addr bound (rw (← is) ok)

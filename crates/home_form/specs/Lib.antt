@@ -1,0 +1,4 @@
+pub mod Home
+pub mod Changes
+pub mod HomeForm
+pub mod Kept
