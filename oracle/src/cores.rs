@@ -1,6 +1,7 @@
 //! Work that is spread over the machine's cores.
 
 use std::iter::Sum;
+use std::ops::Range;
 use std::sync::atomic::{AtomicUsize, Ordering};
 use std::thread;
 
@@ -30,4 +31,12 @@ where
         let tallies = workers.into_iter().map(|worker| worker.join());
         tallies.map(|tally| tally.expect("a worker ends")).sum()
     })
+}
+
+/// The numbers below `count`, by what a core takes at a time.
+pub fn units(count: u64, unit: u64) -> Vec<Range<u64>> {
+    (0..count)
+        .step_by(unit as usize)
+        .map(|first| first..count.min(first + unit))
+        .collect()
 }

@@ -3,9 +3,9 @@
 //! has to change and list nothing.
 
 use std::fmt::{self, Display, Formatter};
-use std::iter::Sum;
 
-use crate::cores::on_every_core;
+use crate::cores::{on_every_core, units};
+use crate::counted::{self, Counted, columns};
 use crate::damaged_section::{self, base, good, ranges, word_count};
 use crate::home_form::{HomeForm, home_form};
 use crate::made;
@@ -26,7 +26,7 @@ const REFUSALS: [u8; 7] = [5, 6, 7, 8, 9, 10, 11];
 
 /// How a section is made.
 #[derive(Debug, Clone, Copy, PartialEq, Eq)]
-enum Kind {
+pub enum Kind {
     File,
     Stored,
     Good,
@@ -64,7 +64,7 @@ impl Display for Kind {
 /// had, how many changed, how many of these were of the unindexed form, and how often each number
 /// refused.
 #[derive(Default, Clone, Copy)]
-struct Outcomes {
+pub struct Outcomes {
     sections: u64,
     homed: u64,
     words: u64,
@@ -73,65 +73,23 @@ struct Outcomes {
     refused: [u64; REFUSALS.len()],
 }
 
-impl Sum for Outcomes {
-    fn sum<I: Iterator<Item = Outcomes>>(outcomes: I) -> Outcomes {
-        outcomes.fold(Outcomes::default(), |total, outcomes| Outcomes {
-            sections: total.sections + outcomes.sections,
-            homed: total.homed + outcomes.homed,
-            words: total.words + outcomes.words,
-            changed: total.changed + outcomes.changed,
-            unindexed: total.unindexed + outcomes.unindexed,
-            refused: std::array::from_fn(|n| total.refused[n] + outcomes.refused[n]),
-        })
+impl Counted for Outcomes {
+    type Kind = Kind;
+    const KINDS: &'static [Kind] = &KINDS;
+
+    fn columns(&mut self) -> Vec<(String, &mut u64)> {
+        let named = [
+            ("sections", &mut self.sections),
+            ("homed", &mut self.homed),
+            ("words", &mut self.words),
+            ("changed", &mut self.changed),
+            ("unindexed", &mut self.unindexed),
+        ];
+        columns(named, &REFUSALS, &mut self.refused)
     }
 }
 
-/// What became of the sections, by the place of their kind.
-#[derive(Default)]
-pub struct Tally([Outcomes; KINDS.len()]);
-
-impl Sum for Tally {
-    fn sum<I: Iterator<Item = Tally>>(tallies: I) -> Tally {
-        tallies.fold(Tally::default(), |total, tally| {
-            Tally(std::array::from_fn(|n| {
-                [total.0[n], tally.0[n]].into_iter().sum()
-            }))
-        })
-    }
-}
-
-impl Display for Tally {
-    fn fmt(&self, f: &mut Formatter) -> fmt::Result {
-        for name in ["sections", "homed", "words", "changed", "unindexed"] {
-            write!(f, "{name:>10} ")?;
-        }
-        for number in REFUSALS {
-            write!(f, "{:>10} ", format!("refused {number}"))?;
-        }
-        let mut line = |outcomes: Outcomes, of: &str| {
-            writeln!(f)?;
-            let Outcomes {
-                sections,
-                homed,
-                words,
-                changed,
-                unindexed,
-                refused,
-            } = outcomes;
-            for number in [sections, homed, words, changed, unindexed] {
-                write!(f, "{number:>10} ")?;
-            }
-            for number in refused {
-                write!(f, "{number:>10} ")?;
-            }
-            write!(f, " {of}")
-        };
-        for (kind, outcomes) in KINDS.into_iter().zip(self.0) {
-            line(outcomes, &kind.to_string())?;
-        }
-        line(self.0.into_iter().sum(), "all")
-    }
-}
+pub type Tally = counted::Tally<Outcomes>;
 
 /// The library's function, which gives what `Coded::of` reads.
 type Put = fn(section: &mut [u8], changes: &mut [u32]) -> u64;
@@ -145,11 +103,7 @@ pub fn home_forms(proved: Proved, files: &[Vec<u8>], count: u64, seed: u64) -> (
 fn run(put: Put, files: &[Vec<u8>], count: u64, seed: u64) -> (Tally, u64) {
     let failures = Reports::new();
     let count = files.len() as u64 + count;
-    let units: Vec<_> = (0..count)
-        .step_by(UNIT as usize)
-        .map(|first| first..count.min(first + UNIT))
-        .collect();
-    let tally = on_every_core(&units, |oracle: &mut Oracle, unit, tally: &mut Tally| {
+    let tally = on_every_core(&units(count, UNIT), |oracle, unit, tally: &mut Tally| {
         for number in unit.clone() {
             let random = &mut Random::new(seed, number);
             let (kind, section) = match files.get(number as usize) {
@@ -289,7 +243,7 @@ fn compare(
 
 #[cfg(test)]
 mod tests {
-    use super::{Outcomes, Put, run};
+    use super::{Put, run};
     use crate::home_form::home_form;
     use crate::oracle::Oracle;
 
@@ -311,7 +265,7 @@ mod tests {
         let (tally, failures) = run(right, &[], 600, 5);
         assert_eq!(failures, 0);
         // Each refusal comes up, and each kind.
-        let all: Outcomes = tally.0.into_iter().sum();
+        let all = tally.all();
         assert!(all.refused.iter().all(|&refused| refused > 0));
         assert!(all.changed > all.unindexed && all.unindexed > 0);
         assert!(tally.0[1..].iter().all(|outcomes| outcomes.sections > 0));

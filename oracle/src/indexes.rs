@@ -1,12 +1,10 @@
 //! Sections whose calls the proved code indexes. What it builds, updates when a word is replaced, and
 //! finds has to be what `calls.rs` has, number for number; and what it updates, what it builds afresh.
 
-use std::fmt::{self, Display, Formatter};
-use std::iter::Sum;
-
-use crate::called_section::{Given, KINDS, change, made};
+use crate::called_section::{Given, KINDS, Kind, change, made};
 use crate::calls::{Call, callers, index, replace};
-use crate::cores::on_every_core;
+use crate::cores::{on_every_core, units};
+use crate::counted::{self, Counted, columns};
 use crate::oracle::Oracle;
 use crate::proved::{Coded, Proved};
 use crate::random::Random;
@@ -28,7 +26,7 @@ const REFUSALS: [u8; 9] = [5, 6, 7, 8, 9, 10, 11, 13, 15];
 /// how many of the updated indexes were compared with one built afresh, how many calls they had and
 /// how many callers were found, and how often each number refused.
 #[derive(Default, Clone, Copy)]
-struct Outcomes {
+pub struct Outcomes {
     sections: u64,
     built: u64,
     replaced: u64,
@@ -43,73 +41,26 @@ impl Outcomes {
         let place = REFUSALS.iter().position(|&refusal| refusal == number);
         self.refused[place.expect("an index's refusal")] += 1;
     }
+}
 
-    fn numbers(self) -> [u64; 6] {
-        [
-            self.sections,
-            self.built,
-            self.replaced,
-            self.afresh,
-            self.calls,
-            self.callers,
-        ]
+impl Counted for Outcomes {
+    type Kind = Kind;
+    const KINDS: &'static [Kind] = &KINDS;
+
+    fn columns(&mut self) -> Vec<(String, &mut u64)> {
+        let named = [
+            ("sections", &mut self.sections),
+            ("built", &mut self.built),
+            ("replaced", &mut self.replaced),
+            ("afresh", &mut self.afresh),
+            ("calls", &mut self.calls),
+            ("callers", &mut self.callers),
+        ];
+        columns(named, &REFUSALS, &mut self.refused)
     }
 }
 
-impl Sum for Outcomes {
-    fn sum<I: Iterator<Item = Outcomes>>(outcomes: I) -> Outcomes {
-        outcomes.fold(Outcomes::default(), |total, outcomes| Outcomes {
-            sections: total.sections + outcomes.sections,
-            built: total.built + outcomes.built,
-            replaced: total.replaced + outcomes.replaced,
-            afresh: total.afresh + outcomes.afresh,
-            calls: total.calls + outcomes.calls,
-            callers: total.callers + outcomes.callers,
-            refused: std::array::from_fn(|n| total.refused[n] + outcomes.refused[n]),
-        })
-    }
-}
-
-/// What became of the sections, by the place of their kind.
-#[derive(Default)]
-pub struct Tally([Outcomes; KINDS.len()]);
-
-impl Sum for Tally {
-    fn sum<I: Iterator<Item = Tally>>(tallies: I) -> Tally {
-        tallies.fold(Tally::default(), |total, tally| {
-            Tally(std::array::from_fn(|n| {
-                [total.0[n], tally.0[n]].into_iter().sum()
-            }))
-        })
-    }
-}
-
-impl Display for Tally {
-    fn fmt(&self, f: &mut Formatter) -> fmt::Result {
-        for name in [
-            "sections", "built", "replaced", "afresh", "calls", "callers",
-        ] {
-            write!(f, "{name:>9} ")?;
-        }
-        for number in REFUSALS {
-            write!(f, "{:>10} ", format!("refused {number}"))?;
-        }
-        let mut line = |outcomes: Outcomes, of: &str| {
-            writeln!(f)?;
-            for number in outcomes.numbers() {
-                write!(f, "{number:>9} ")?;
-            }
-            for number in outcomes.refused {
-                write!(f, "{number:>10} ")?;
-            }
-            write!(f, " {of}")
-        };
-        for (kind, outcomes) in KINDS.into_iter().zip(self.0) {
-            line(outcomes, &kind.to_string())?;
-        }
-        line(self.0.into_iter().sum(), "all")
-    }
-}
+pub type Tally = counted::Tally<Outcomes>;
 
 /// The library's functions, which give what `Coded::of` reads.
 #[derive(Clone, Copy)]
@@ -132,11 +83,7 @@ pub fn indexes(proved: Proved, count: u64, seed: u64) -> (Tally, u64) {
 
 fn run(calls: Calls, count: u64, seed: u64) -> (Tally, u64) {
     let failures = Reports::new();
-    let units: Vec<_> = (0..count)
-        .step_by(UNIT as usize)
-        .map(|first| first..count.min(first + UNIT))
-        .collect();
-    let tally = on_every_core(&units, |oracle: &mut Oracle, unit, tally: &mut Tally| {
+    let tally = on_every_core(&units(count, UNIT), |oracle, unit, tally: &mut Tally| {
         for number in unit.clone() {
             let random = &mut Random::new(seed, number);
             let (place, given) = made(oracle, random);
@@ -370,7 +317,7 @@ mod tests {
         let (tally, failures) = run(RIGHT, 400, 3);
         assert_eq!(failures, 0);
         // Each refusal comes up, and each kind.
-        let all: super::Outcomes = tally.0.into_iter().sum();
+        let all = tally.all();
         assert!(all.refused.iter().all(|&refused| refused > 0));
         assert!(all.afresh > 0 && all.callers > 0);
         assert!(tally.0.iter().all(|outcomes| outcomes.sections > 0));

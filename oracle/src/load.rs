@@ -7,7 +7,7 @@ use std::io::{self, Write};
 use std::iter::Sum;
 use std::process::{Command, Stdio};
 
-use crate::cores::on_every_core;
+use crate::cores::{on_every_core, units};
 use crate::damaged_section::{Way, made, ways};
 use crate::oracle::Oracle;
 use crate::proved::{Coded, Proved};
@@ -146,11 +146,7 @@ fn load(
 ) -> (Tally, u64) {
     let ways = ways();
     let failures = Reports::new();
-    let units: Vec<_> = (0..count)
-        .step_by(UNIT as usize)
-        .map(|first| first..count.min(first + UNIT))
-        .collect();
-    let tally = on_every_core(&units, |oracle, unit, tally: &mut Tally| {
+    let tally = on_every_core(&units(count, UNIT), |oracle, unit, tally: &mut Tally| {
         for index in unit.clone() {
             let (place, section) = made(&ways, seed, index);
             let expected = expected(oracle, &section);

@@ -10,6 +10,7 @@ mod called_section;
 mod calls;
 mod conditions;
 mod cores;
+mod counted;
 mod damage;
 mod damaged_row;
 mod damaged_section;

@@ -1,13 +1,11 @@
 //! Pairs of a section and a patch given to the proved lookup, with runs across every border, and to
 //! the function that writes the patched section. What they give has to be what `patch.rs` gives.
 
-use std::fmt::{self, Display, Formatter};
-use std::iter::Sum;
-
-use crate::cores::on_every_core;
+use crate::cores::{on_every_core, units};
+use crate::counted::{self, Counted, columns};
 use crate::load::writes;
 use crate::patch::{Held, Laid, patched, run};
-use crate::patched_section::{KINDS, lookup, made};
+use crate::patched_section::{KINDS, Kind, lookup, made};
 use crate::proved::{Coded, Proved};
 use crate::reports::Reports;
 
@@ -23,9 +21,10 @@ const REFUSALS: [u8; 4] = [7, 8, 9, 14];
 /// What became of the pairs of a kind: how many were written as a section, how many of their runs
 /// lie in the section and in the patch, and how many were refused with each number.
 #[derive(Default, Clone, Copy)]
-struct Outcomes {
+pub struct Outcomes {
     pairs: u64,
     written: u64,
+    runs: u64,
     section: u64,
     patch: u64,
     refused: [u64; REFUSALS.len()],
@@ -33,6 +32,7 @@ struct Outcomes {
 
 impl Outcomes {
     fn add(&mut self, found: Result<Held, u8>) {
+        self.runs += 1;
         match found {
             Ok(Held::Section(_)) => self.section += 1,
             Ok(Held::Patch(_)) => self.patch += 1,
@@ -42,65 +42,25 @@ impl Outcomes {
             }
         }
     }
+}
 
-    fn runs(self) -> u64 {
-        self.section + self.patch + self.refused.iter().sum::<u64>()
+impl Counted for Outcomes {
+    type Kind = Kind;
+    const KINDS: &'static [Kind] = &KINDS;
+
+    fn columns(&mut self) -> Vec<(String, &mut u64)> {
+        let named = [
+            ("pairs", &mut self.pairs),
+            ("patched", &mut self.written),
+            ("runs", &mut self.runs),
+            ("in section", &mut self.section),
+            ("in patch", &mut self.patch),
+        ];
+        columns(named, &REFUSALS, &mut self.refused)
     }
 }
 
-impl Sum for Outcomes {
-    fn sum<I: Iterator<Item = Outcomes>>(outcomes: I) -> Outcomes {
-        outcomes.fold(Outcomes::default(), |total, outcomes| Outcomes {
-            pairs: total.pairs + outcomes.pairs,
-            written: total.written + outcomes.written,
-            section: total.section + outcomes.section,
-            patch: total.patch + outcomes.patch,
-            refused: std::array::from_fn(|n| total.refused[n] + outcomes.refused[n]),
-        })
-    }
-}
-
-/// What became of the pairs, by the place of their kind.
-#[derive(Default)]
-pub struct Tally([Outcomes; KINDS.len()]);
-
-impl Sum for Tally {
-    fn sum<I: Iterator<Item = Tally>>(tallies: I) -> Tally {
-        tallies.fold(Tally::default(), |total, tally| {
-            Tally(std::array::from_fn(|n| {
-                [total.0[n], tally.0[n]].into_iter().sum()
-            }))
-        })
-    }
-}
-
-impl Display for Tally {
-    fn fmt(&self, f: &mut Formatter) -> fmt::Result {
-        write!(f, "{:>9} {:>9} {:>10}", "pairs", "patched", "runs")?;
-        write!(f, " {:>10} {:>10}", "in section", "in patch")?;
-        for number in REFUSALS {
-            write!(f, " {:>10}", format!("refused {number}"))?;
-        }
-        let mut line = |outcomes: Outcomes, of: &str| {
-            let Outcomes {
-                pairs,
-                written,
-                section,
-                patch,
-                refused,
-            } = outcomes;
-            write!(f, "\n{pairs:>9} {written:>9} {:>10}", outcomes.runs())?;
-            for number in [section, patch].into_iter().chain(refused) {
-                write!(f, " {number:>10}")?;
-            }
-            write!(f, "  {of}")
-        };
-        for (kind, outcomes) in KINDS.into_iter().zip(self.0) {
-            line(outcomes, &kind.to_string())?;
-        }
-        line(self.0.into_iter().sum(), "all")
-    }
-}
+pub type Tally = counted::Tally<Outcomes>;
 
 /// The two functions of the library: where a run lies, and the patched section.
 #[derive(Clone, Copy)]
@@ -121,11 +81,7 @@ pub fn patches(proved: Proved, count: u64, seed: u64) -> (Tally, u64) {
 
 fn compare(calls: Calls, count: u64, seed: u64) -> (Tally, u64) {
     let failures = Reports::new();
-    let units: Vec<_> = (0..count)
-        .step_by(UNIT as usize)
-        .map(|first| first..count.min(first + UNIT))
-        .collect();
-    let tally = on_every_core(&units, |_, unit, tally: &mut Tally| {
+    let tally = on_every_core(&units(count, UNIT), |_, unit, tally: &mut Tally| {
         for index in unit.clone() {
             let (place, section, patch) = made(seed, index);
             let outcomes = &mut tally.0[place];
@@ -180,7 +136,7 @@ fn patches_so(
 
 #[cfg(test)]
 mod tests {
-    use super::{Calls, Outcomes, coded, compare};
+    use super::{Calls, coded, compare};
     use crate::patch::{Laid, patched, run};
 
     /// Stands in for the library's function, which gives this.
@@ -218,7 +174,7 @@ mod tests {
         let (tally, failures) = compare(RIGHT, 600, 3);
         assert_eq!(failures, 0);
         // Each outcome, and each kind of pair, comes up.
-        let all: Outcomes = tally.0.into_iter().sum();
+        let all = tally.all();
         assert!(all.section > 0 && all.patch > 0 && all.written > 0);
         assert!(all.refused.iter().all(|&refused| refused > 0));
         assert!(tally.0.iter().all(|outcomes| outcomes.pairs > 0));

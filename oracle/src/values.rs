@@ -3,10 +3,9 @@
 
 use std::fmt::{self, Display, Formatter};
 use std::iter::Sum;
-use std::ops::Range;
 
 use crate::answer::{Answer, Instruction};
-use crate::cores::on_every_core;
+use crate::cores::{on_every_core, units};
 use crate::damage::Damage;
 use crate::damaged_row::RowDamage;
 use crate::home::{Filler, home};
@@ -18,7 +17,7 @@ use crate::reports::Reports;
 use crate::row::{padded, row};
 
 /// How many values a core takes at a time.
-const UNIT: usize = 65_536;
+const UNIT: u64 = 65_536;
 
 /// Where a value comes from.
 #[derive(Debug, Clone, Copy)]
@@ -130,21 +129,13 @@ pub fn values(proved: Proved, count: u64, seed: u64) -> (Tally, u64) {
         seed,
         failures: Reports::new(),
     };
-    let tally = on_every_core(&units(count), |oracle, unit, tally: &mut Tally| {
+    let tally = on_every_core(&units(count, UNIT), |oracle, unit, tally: &mut Tally| {
         for index in unit.clone() {
             tally.made += 1;
             trial.value(oracle, index, tally);
         }
     });
     (tally, trial.failures.count())
-}
-
-/// The numbers of the values, by what a core takes at a time.
-fn units(count: u64) -> Vec<Range<u64>> {
-    (0..count)
-        .step_by(UNIT)
-        .map(|first| first..count.min(first + UNIT as u64))
-        .collect()
 }
 
 struct Trial {

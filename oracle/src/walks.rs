@@ -1,14 +1,11 @@
 //! Sections given to the proved walk. Its report has to be that of `walk.rs`, number for number.
 
-use std::fmt::{self, Display, Formatter};
-use std::iter::Sum;
-
-use crate::cores::on_every_core;
-use crate::oracle::Oracle;
+use crate::cores::{on_every_core, units};
+use crate::counted::{self, Counted, columns};
 use crate::proved::{Coded, Proved};
 use crate::reports::Reports;
 use crate::walk::{self, Walk, walk};
-use crate::walked_section::{KINDS, made};
+use crate::walked_section::{KINDS, Kind, made};
 
 /// How many sections a core takes at a time.
 const UNIT: u64 = 64;
@@ -25,7 +22,8 @@ const REFUSALS: [u8; 7] = [5, 6, 7, 8, 9, 11, 13];
 /// What became of the sections of a kind: how many were walked through, how many were refused with
 /// each number, and how many records of each kind the reports have.
 #[derive(Default, Clone, Copy)]
-struct Outcomes {
+pub struct Outcomes {
+    sections: u64,
     walked: u64,
     refused: [u64; REFUSALS.len()],
     records: [u64; walk::KINDS.len()],
@@ -33,6 +31,7 @@ struct Outcomes {
 
 impl Outcomes {
     fn add(&mut self, report: &Result<Walk, u8>) {
+        self.sections += 1;
         match report {
             Ok(walk) => {
                 self.walked += 1;
@@ -46,58 +45,25 @@ impl Outcomes {
             }
         }
     }
+}
 
-    fn sections(self) -> u64 {
-        self.walked + self.refused.iter().sum::<u64>()
+impl Counted for Outcomes {
+    type Kind = Kind;
+    const KINDS: &'static [Kind] = &KINDS;
+
+    fn columns(&mut self) -> Vec<(String, &mut u64)> {
+        let named = [
+            ("sections", &mut self.sections),
+            ("walked", &mut self.walked),
+        ];
+        let mut all = columns(named, &REFUSALS, &mut self.refused);
+        let names = walk::KINDS.iter().map(|kind| kind.name().to_string());
+        all.extend(names.zip(&mut self.records));
+        all
     }
 }
 
-impl Sum for Outcomes {
-    fn sum<I: Iterator<Item = Outcomes>>(outcomes: I) -> Outcomes {
-        outcomes.fold(Outcomes::default(), |total, outcomes| Outcomes {
-            walked: total.walked + outcomes.walked,
-            refused: std::array::from_fn(|n| total.refused[n] + outcomes.refused[n]),
-            records: std::array::from_fn(|n| total.records[n] + outcomes.records[n]),
-        })
-    }
-}
-
-/// What became of the sections, by the place of their kind.
-#[derive(Default)]
-pub struct Tally([Outcomes; KINDS.len()]);
-
-impl Sum for Tally {
-    fn sum<I: Iterator<Item = Tally>>(tallies: I) -> Tally {
-        tallies.fold(Tally::default(), |total, tally| {
-            Tally(std::array::from_fn(|n| {
-                [total.0[n], tally.0[n]].into_iter().sum()
-            }))
-        })
-    }
-}
-
-impl Display for Tally {
-    fn fmt(&self, f: &mut Formatter) -> fmt::Result {
-        write!(f, "{:>9} {:>9}", "sections", "walked")?;
-        for number in REFUSALS {
-            write!(f, " {:>10}", format!("refused {number}"))?;
-        }
-        for kind in walk::KINDS {
-            write!(f, " {:>10}", kind.name())?;
-        }
-        let mut line = |outcomes: Outcomes, of: &str| {
-            write!(f, "\n{:>9} {:>9}", outcomes.sections(), outcomes.walked)?;
-            for number in outcomes.refused.into_iter().chain(outcomes.records) {
-                write!(f, " {number:>10}")?;
-            }
-            write!(f, "  {of}")
-        };
-        for (kind, outcomes) in KINDS.into_iter().zip(self.0) {
-            line(outcomes, &kind.to_string())?;
-        }
-        line(self.0.into_iter().sum(), "all")
-    }
-}
+pub type Tally = counted::Tally<Outcomes>;
 
 /// A function of the library that writes the report of a walk to the start of a buffer, and gives
 /// what `Coded::of` reads.
@@ -111,11 +77,7 @@ pub fn walks(proved: Proved, count: u64, seed: u64) -> (Tally, u64) {
 
 fn run(call: Walks, count: u64, seed: u64) -> (Tally, u64) {
     let failures = Reports::new();
-    let units: Vec<_> = (0..count)
-        .step_by(UNIT as usize)
-        .map(|first| first..count.min(first + UNIT))
-        .collect();
-    let tally = on_every_core(&units, |oracle: &mut Oracle, unit, tally: &mut Tally| {
+    let tally = on_every_core(&units(count, UNIT), |oracle, unit, tally: &mut Tally| {
         for index in unit.clone() {
             let (place, section, entry) = made(seed, index);
             let right = walk(oracle, &section, entry);
@@ -212,10 +174,10 @@ mod tests {
         let (tally, failures) = run(right, 600, 3);
         assert_eq!(failures, 0);
         // Each kind of record, and each refusal, comes up.
-        let all: super::Outcomes = tally.0.into_iter().sum();
+        let all = tally.all();
         assert!(all.records.iter().all(|&records| records > 0));
         assert!(all.refused.iter().all(|&refused| refused > 0));
-        assert!(tally.0.iter().all(|outcomes| outcomes.sections() > 0));
+        assert!(tally.0.iter().all(|outcomes| outcomes.sections > 0));
     }
 
     /// Functions with one fault each.

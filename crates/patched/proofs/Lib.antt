@@ -3,6 +3,5 @@ pub mod Image
 pub mod Accepts
 pub mod Gives
 pub mod Short
-pub mod Front
 pub mod Patches
 pub mod Unique

@@ -8,8 +8,6 @@ use Rattle.word.specs.Choice.{pick}
 use Rattle.text.specs.Fits.{answerOf, lastOf}
 use Rattle.text.specs.declared.Written.{Written}
 use Rattle.section.specs.Section.{baseOf, startOf, firsts, refusalOf}
-use Rattle.section.specs.declared.Here.{Here}
-use Rattle.section.specs.declared.Here.the-variants.{Word, Data, End}
 use Rattle.patch.specs.Image.{Laid, _from_, byteAt}
 
 -- the words of a section, data or not, at its base
@@ -44,9 +42,3 @@ patchedGiven s p out =
 -- it stands at the buffer's start, and nothing after it changes; a refusal changes nothing
 unfoldable pub patchedLeft : List ℕ → List ℕ → List ℕ → List ℕ
 patchedLeft s p out = pick (eqb (patchedRefusal s p) 0) (lastOf (patchedOf s p) out) out
-
--- what stands at a place, with another word
-abbrev pub carrying : ℕ → Here → Here
-carrying w (Word word address) = Word w address
-carrying w (Data word address) = Data w address
-carrying w End = End

@@ -111,7 +111,7 @@ use Rattle.brassdozen.proofs.brassdozen_replace as c-replace
 use Rattle.brassdozen.proofs.brassdozen_callers as c-callers
 use Rattle.brassdozen.proofs.brassdozen_home_form as c-home-form
 use Rattle.a32_elsewhere.proofs.Elsewhere as Elsewhere
-use Rattle.a32_refusals.proofs.Refusals as Refusals
+use Rattle.a32_every.proofs.Refusals as Refusals
 use Rattle.encode_home.proofs.Same as Same
 use Rattle.encode.proofs.Encodes as Encodes
 use Rattle.section.proofs.Accepted as Sections

@@ -1,5 +1,4 @@
 -- Facts of the crate: the groups, and the theorems.
 pub mod Laws
 pub mod Groups
-pub mod Branches
 pub mod ReadOnce

@@ -1,5 +1,4 @@
 -- How an answer reads under another condition (02, P2).
-use mathlib.Core.Bool.{Bool, true, false}
 use mathlib.Core.List.{List, _++_}
 use Prim.Native.Nat.{ℕ}
 use lib.Dec.{eqb}
@@ -14,7 +13,7 @@ use Rattle.line_spelling.specs.Names.{suffixes, entry}
 use Rattle.line_spelling.specs.Line.{stemOf, tailOf, placesText, flowText, refusedText}
 
 -- "operands, root and flow are equal, save that an unlinked b is branch at 14 and conditional branch otherwise": no other name has either
--- flow, which is `branches-are-b`
+-- flow, which is `branches-are-b` of a32_every
 abbrev pub flowAt : ℕ → Flow → Flow
 flowAt c Next = Next
 flowAt c (Branch a) = pick (eqb c 14) (Branch a) (CondBranch a)
@@ -24,20 +23,6 @@ flowAt c (Call a) = Call a
 flowAt c IndirectCall = IndirectCall
 flowAt c Return = Return
 flowAt c Trap = Trap
-
-abbrev pub isBranch : Flow → Bool
-isBranch Next = false
-isBranch (Branch a) = true
-isBranch (CondBranch a) = true
-isBranch IndirectBranch = false
-isBranch (Call a) = false
-isBranch IndirectCall = false
-isBranch Return = false
-isBranch Trap = false
-
--- an accepted answer with either flow is a b
-unfoldable pub onlyB : Decoded → Bool
-onlyB d = pick (eqb (d .refusal) 0) (pick (isBranch (d .insn .flow)) (eqb (d .insn .name) (name "b")) true) true
 
 -- an answer as it reads under condition c: "both are accepted or both are refused with one number"
 unfoldable pub under : ℕ → Decoded → Decoded

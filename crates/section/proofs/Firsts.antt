@@ -33,3 +33,8 @@ module _ {A : Type 0} (at : ℕ → A) where
 
   pub none-left : (n i : ℕ) → n ≤ i → drop i (firsts at n) ≡ []
   none-left n i h = drop-of-length-le (firsts at n) {i = i} (omega (arith, so-many n))
+
+-- functions that agree on the first numbers give the same for them
+pub same-firsts : {A : Type 0} {f g : ℕ → A} (n : ℕ) → ((i : ℕ) → i < n → f i ≡ g i) → firsts f n ≡ firsts g n
+same-firsts zero same = refl
+same-firsts (suc n) same = rw (same-firsts n (λ i h. same i (omega arith)), same n (omega arith))

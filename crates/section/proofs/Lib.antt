@@ -6,6 +6,7 @@ pub mod Accepted
 pub mod Places
 pub mod Fold
 pub mod Reading
+pub mod Front
 pub mod Replaced
 pub mod Example
 pub mod Taken

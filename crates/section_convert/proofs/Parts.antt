@@ -1,5 +1,5 @@
 -- A section without ranges in both versions: the same mark, base and words, with the same refusal and the same places. Assumes nothing.
-use mathlib.Core.Path.{_≡_, refl, ap, sym, _∙_}
+use mathlib.Core.Path.{_≡_, ap, sym, _∙_}
 use mathlib.Core.List.{List, [], _∷_, _++_}
 use Prim.Native.Nat.{ℕ, zero, suc, _+_, _-_, _*_, _/_, _≤_}
 use native.Mathlib.Nat.{add-assoc}
@@ -12,6 +12,7 @@ use Rattle.word.specs.Bytes.{wordAt}
 use Rattle.word.specs.Choice.{by-test}
 use Rattle.section.specs.Section.{halfAt, versionOf, countOf, firsts, refusalOf, openedOf, hereAt, placesOf}
 use Rattle.section.proofs.Accepted.{opens, refuses}
+use Rattle.section.proofs.Firsts.{same-firsts}
 
 -- mark, base and the bytes of the words
 pub record Parts : Type 0 where
@@ -73,10 +74,6 @@ is-two s long version none =
 word-after : (n : ℕ) (s : List ℕ) (at : ℕ) → wordAt s (n + at) ≡ wordAt (drop n s) at
 word-after n s at = simp (add-assoc, getD-drop)
 
-same-firsts : {A : Type 0} {f g : ℕ → A} → ((i : ℕ) → f i ≡ g i) → (n : ℕ) → firsts f n ≡ firsts g n
-same-firsts e zero = refl
-same-firsts {f = f} {g = g} e (suc n) = rw (same-firsts e n, e n)
-
 module _ (p : Parts) where
   count-one : countOf (one p) ≡ length (p .rest) / 4
   count-one = ap (λ (n : ℕ). n / 4) {x = length (one p) - 9} {y = length (p .rest)} (omega arith)
@@ -111,7 +108,7 @@ module _ (p : Parts) where
 
       accepted : refusalOf (one p) ≡ 0 → placesOf (two p) ≡ placesOf (one p)
       accepted ok = unfold placesOf in
-          same-firsts (at-each ok) (openedOf (two p) .count)
+          same-firsts (openedOf (two p) .count) (λ place h. at-each ok place)
           ∙ ap (λ (n : ℕ). firsts (hereAt (one p) (openedOf (one p))) n) {x = openedOf (two p) .count} {y = openedOf (one p) .count}
           (rw (opens (one p) ok, opens (two p) (same-refusal ∙ ok)) same-count)
 

@@ -13,7 +13,7 @@ use Rattle.insn.specs.Numbers.{flowNumber}
 use Rattle.insn.specs.Roots.{NAMES}
 use Rattle.insn.specs.declared.Decoded.{Decoded}
 use Rattle.a32.specs.Decode.{decodeOf}
-use Rattle.a32_refusals.proofs.Refusals.{two-or-three}
+use Rattle.a32_every.proofs.Refusals.{two-or-three}
 use Rattle.line_spelling.proofs.FormedAll.{all-good}
 use Rattle.section.specs.Section.{firsts}
 use Rattle.section.specs.declared.Here.{Here}

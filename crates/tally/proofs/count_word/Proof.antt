@@ -8,7 +8,7 @@ use borrow.Author.Needs.{needs}
 use Rattle.insn.specs.Roots.{NAMES}
 use Rattle.insn.specs.declared.Decoded.{Decoded}
 use Rattle.a32.specs.Decode.{decodeOf}
-use Rattle.a32_refusals.proofs.Refusals.{two-or-three}
+use Rattle.a32_every.proofs.Refusals.{two-or-three}
 use Rattle.line_spelling.proofs.FormedAll.{all-good}
 use Rattle.section.specs.declared.Here.the-variants.{Word}
 use Rattle.tally.specs.Kinds.{one, wordIs}

@@ -1,1 +1,0 @@
-//! With which numbers words are refused.
