@@ -4,12 +4,10 @@ use mathlib.Core.List.{List, [], _∷_, _++_}
 use Prim.Native.Nat.{ℕ, zero, suc, _+_, _*_, _<_, _≤_}
 use native.Mathlib.Omega.{arith}
 use lib.Dec.{eqb}
-use lib.ListN.{length, set, length-set, length-append}
+use lib.ListN.{length, length-append}
 use Rattle.word.specs.Choice.{tested}
 use Rattle.section.specs.Section.{hereOf, stepOf}
 use Rattle.section.specs.declared.Step.{Step}
-use Rattle.text.specs.Put.{Put}
-use Rattle.text.proofs.Writing.{byte, _then_}
 use Rattle.home_form.specs.Home.{gathered, bytesAt}
 use Rattle.home_form.specs.Changes.{changeAt, listed, changesAt, numbersOf, isUnindexed, unindexedAmong}
 use Rattle.home_form.specs.declared.Change.{Change}
@@ -40,15 +38,6 @@ numbers-append (c ∷ l) m = ap (λ (xs : List ℕ). c .place ∷ c .old ∷ c .
 pub three-each : (l : List Change) → length (numbersOf l) ≡ 3 * length l
 three-each [] = refl
 three-each (c ∷ l) = omega (arith, three-each l)
-
-pub three-put : (out : List ℕ) (at a b c : ℕ) → at + 3 ≤ length out
-    → Put out at (a ∷ b ∷ c ∷ []) (at + 3) (set (set (set out at a) (at + 1) b) (at + 2) c)
-three-put out at a b c h =
-    let one = byte out at a (omega arith) in
-    let two = one then byte (set out at a) (at + 1) b (rw (length-set out at a) (omega arith)) in
-    let on : at + 1 + 1 ≡ at + 2 = omega arith in
-    let three = (rw on at two) then byte (set (set out at a) (at + 1) b) (at + 2) c (simp length-set (omega arith)) in
-    record { ends = refl; holds = three .holds }
 
 -- the unindexed among the changes of two lists, and of one place: no more than there are
 pub unindexed-append : (l m : List Change) → unindexedAmong (l ++ m) ≡ unindexedAmong l + unindexedAmong m

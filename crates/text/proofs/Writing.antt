@@ -1,11 +1,11 @@
 -- The laws of a text written into a buffer. Assumes nothing.
 use mathlib.Core.Path.{_≡_, refl, sym, _∙_}
 use mathlib.Core.List.{List, [], _∷_, _++_, append-nil}
-use Prim.Native.Nat.{ℕ, zero, suc, _+_, _<_}
+use Prim.Native.Nat.{ℕ, zero, suc, _+_, _<_, _≤_}
 use native.Mathlib.Nat.{zero-add, add-assoc, suc-add}
 use native.Mathlib.Numerals.{add-one}
 use native.Mathlib.Omega.{arith}
-use lib.ListN.{length, getD, take, drop, set, length-append, length-take, length-drop, drop-of-length-le}
+use lib.ListN.{length, getD, take, drop, set, length-set, length-append, length-take, length-drop, drop-of-length-le}
 use lib.Seq.{take-nil, drop-nil, take-all, take-append-seam, drop-append-add, drop-drop, paste-zero, set-split, append-snoc, take-suc}
 use Rattle.text.specs.Text.{written}
 use Rattle.text.specs.Put.{Room, Put}
@@ -60,6 +60,17 @@ p then q = record {
   ends = q .ends ∙ simp (p .ends, length-append, add-assoc);
   holds = q .holds ∙ simp (p .ends, p .holds, both);
 }
+
+-- three numbers, one after the other
+pub three-put : (out : List ℕ) (at a b c : ℕ) → at + 3 ≤ length out
+    → Put out at (a ∷ b ∷ c ∷ []) (at + 3) (set (set (set out at a) (at + 1) b) (at + 2) c)
+three-put out at a b c h =
+    let e : at + 1 + 1 ≡ at + 2 = omega arith in
+    let f : at + 2 + 1 ≡ at + 3 = omega arith in
+    rw (e, f) at
+    (byte out at a (omega arith)
+    then byte (set out at a) (at + 1) b (omega (arith, length-set out at a))
+    then byte (set (set out at a) (at + 1) b) (at + 1 + 1) c (omega (arith, length-set out at a, length-set (set out at a) (at + 1) b)))
 
 -- one byte more of a text
 pub more : {out last : List ℕ} {at : ℕ} (text : List ℕ) (i : ℕ) → Put out at (take i text) (at + i) last → i < length text

@@ -1,11 +1,11 @@
 -- The records of a walk, written and counted. Assumes nothing.
-use mathlib.Core.Path.{_≡_, refl, sym, ap, _∙_}
+use mathlib.Core.Path.{_≡_, refl, ap}
 use mathlib.Core.Bool.{Bool, true, false}
-use mathlib.Core.List.{List, [], _∷_, _++_}
+use mathlib.Core.List.{List, []}
 use Prim.Native.Nat.{ℕ, zero, suc, _+_, _*_, _-_, _≤_, _<_}
 use native.Mathlib.Numerals.{add-one}
 use native.Mathlib.Omega.{arith}
-use lib.ListN.{length, getD, set, length-append, length-set}
+use lib.ListN.{length, getD, length-append}
 use lib.Dec.{eqb}
 use Rattle.word.specs.Choice.{tested}
 use Rattle.insn.specs.Roots.{name}
@@ -13,8 +13,6 @@ use Rattle.insn.specs.declared.Cond.{Cond}
 use Rattle.insn.specs.declared.Flow.{Flow}
 use Rattle.insn.specs.declared.Flow.the-variants.{Next, Branch, CondBranch, IndirectBranch, Call, IndirectCall, Return, Trap}
 use Rattle.a32.specs.Decode.{decodeOf}
-use Rattle.text.specs.Put.{Put}
-use Rattle.text.proofs.Writing.{byte, _then_}
 use Rattle.section.specs.Section.{openedOf, hereOf}
 use Rattle.section.specs.declared.Here.{Here}
 use Rattle.section.specs.declared.Here.the-variants.{Word, Data, End}
@@ -24,17 +22,6 @@ use Rattle.walk_steps.specs.Leads.{goesOn, goesTo, stops, perhaps, flowLeads, h
 use Rattle.walk_steps.specs.Steps.{runsOff, leaves}
 use Rattle.walk_steps.specs.declared.Leads.{Leads}
 use Rattle.walk.specs.Report.{threeOf, three, waysIn, waysOut, recordsFrom, recordsHere, recordsBefore, reportOf}
-
--- three numbers, one after the other
-pub three-put : (out : List ℕ) (at a b c : ℕ) → at + 3 ≤ length out
-    → Put out at (a ∷ b ∷ c ∷ []) (at + 3) (set (set (set out at a) (at + 1) b) (at + 2) c)
-three-put out at a b c h =
-    let e : at + 1 + 1 ≡ at + 2 = omega arith in
-    let f : at + 2 + 1 ≡ at + 3 = omega arith in
-    rw (e, f) at
-    (byte out at a (omega arith)
-    then byte (set out at a) (at + 1) b (omega (arith, length-set out at a))
-    then byte (set (set out at a) (at + 1) b) (at + 1 + 1) c (omega (arith, length-set out at a, length-set (set out at a) (at + 1) b)))
 
 -- how many numbers records have
 length-three : (b : Bool) (p k v : ℕ) → length (threeOf b p k v) ≡ three b

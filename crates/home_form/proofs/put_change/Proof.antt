@@ -4,8 +4,7 @@ use native.Mathlib.Omega.{arith}
 use borrow.Author.Needs.{needs}
 use borrow.Author.Tests.{eq-eqb, ne-eqb}
 use lib.ListN.{length, length-set}
-use Rattle.text.proofs.Writing.{none}
-use Rattle.home_form.proofs.Gathered.{three-put}
+use Rattle.text.proofs.Writing.{none, three-put}
 use Rattle.home_form.proofs.put_change as f
 
 room : (c : f.Tie.Else1) → c .before .before .args .at + 3 ≤ length (c .before .before .args .list .now)

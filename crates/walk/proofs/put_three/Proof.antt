@@ -2,9 +2,8 @@
 use Prim.Native.Nat.{_+_, _≤_}
 use native.Mathlib.Omega.{arith}
 use lib.ListN.{length, length-set}
-use Rattle.text.proofs.Writing.{none}
+use Rattle.text.proofs.Writing.{none, three-put}
 use Rattle.walk.proofs.Following.{unset, isset}
-use Rattle.walk.proofs.Records.{three-put}
 use borrow.Author.Needs.{needs}
 use Rattle.walk.proofs.put_three.Statement.{statement}
 use Rattle.walk.proofs.put_three.Tie as tie
