@@ -1,6 +1,7 @@
 /* Brassdozen for C: a decoder, an encoder and a lister of A32, a walk through it, counts and patches over it, an index of its calls and its home
    form, each function proved to meet the contract that stands here in words. docs/LIBRARY.md says how to build the library, and where its proof
-   ends.
+   ends. brassdozen_names.h, which is included here, has a constant for each name, flow, condition, kind of operand, refusal and number of a row,
+   and their texts; brassdozen_insn.h has an instruction as a struct, and goes through a section.
 
    Every function returns, for every word, address and content of what it is lent, and does nothing but write to what it is lent without const.
    It keeps nothing, takes nothing but a little stack and may be called by several threads at once.
@@ -14,71 +15,55 @@
 #include <stddef.h>
 #include <stdint.h>
 
+#include "brassdozen_names.h"
+
 #ifdef __cplusplus
 extern "C" {
 #endif
 
 /* The version of this header: 10,000 for each major one, 100 for each minor one, and one for each patch. The major one changes where what is
    here changes, a row or a function, and the minor one where something is added. */
-enum { BRASSDOZEN_VERSION = 30400 };
+enum { BRASSDOZEN_VERSION = 30500 };
 
 /* The version of the library that is linked. */
 uint32_t brassdozen_version(void);
 
-/* A refusal's number, or 0. */
-enum {
-    BRASSDOZEN_SHORT = 1,             /* decoding bytes: fewer than four */
-    BRASSDOZEN_COPROCESSOR = 2,       /* decoding: condition below 15, bits 27:26 = 11, coprocessor 10 or 11 */
-    BRASSDOZEN_NO_ROW = 3,            /* decoding: any other word that names no instruction that is known here */
-    BRASSDOZEN_NO_WORD = 4,           /* encoding: no word's answer has this row */
-    BRASSDOZEN_BAD_MARK = 5,          /* a section: its mark is not RSX */
-    BRASSDOZEN_BAD_VERSION = 6,       /* a section: its version is neither 1 nor 2 */
-    BRASSDOZEN_BAD_LENGTH = 7,        /* a section: shorter than 9 bytes, the count of ranges or a range cut short, or not whole words */
-    BRASSDOZEN_TOO_MANY_WORDS = 8,    /* a section: more than 4,096 words */
-    BRASSDOZEN_BAD_BASE = 9,          /* a section: its base is no multiple of 4, or its words go beyond the last address */
-    BRASSDOZEN_NO_ROOM = 10,          /* writing: longer than what is lent; a tally or an index: fewer numbers are lent than one has */
-    BRASSDOZEN_BAD_RANGES = 11,       /* a section: more than 64 ranges, or one that is empty, not in the section, or not after the one before it */
-    BRASSDOZEN_HAS_RANGES = 12,       /* converting to version 1: a section with ranges */
-    BRASSDOZEN_NO_PLACE = 13,         /* walking: the entry is no place of the section; replacing a word: its place is none */
-    BRASSDOZEN_NO_RUN = 14,           /* looking up a run: it is empty, or neither section nor patch holds all of it */
-    BRASSDOZEN_TOO_MANY_CALLS = 15,   /* an index: it has, or would have, more than 1,024 calls */
-    BRASSDOZEN_TOO_MANY_SECTIONS = 16 /* adding to a tally: 65,536 sections are in it */
-};
-
-/* Where a function gives a number of 64 bits, the refusal stands above 32 bits of result, which are 0 beside a refusal. */
+/* A refusal's number, or 0, is what some functions give. Where one gives a number of 64 bits, the refusal stands above 32 bits of result, which
+   are 0 beside a refusal. brassdozen_refusal_text says why in words. */
 static inline unsigned brassdozen_refusal(uint64_t given) { return (unsigned)(given >> 32); }
 static inline uint32_t brassdozen_result(uint64_t given) { return (uint32_t)given; }
 
 enum {
-    BRASSDOZEN_ROW = 71,         /* the numbers of a row */
     BRASSDOZEN_LINE = 96,        /* no line has more bytes */
     BRASSDOZEN_LISTING = 393280, /* no listing has more bytes */
     BRASSDOZEN_SECTION = 16907,  /* no section that is accepted has more bytes */
     BRASSDOZEN_REPORT = 49152,   /* no report of a walk has more numbers */
-    BRASSDOZEN_TALLY = 171,      /* the numbers of a tally */
     BRASSDOZEN_INDEX = 2048,     /* so many numbers are lent for an index of calls */
-    BRASSDOZEN_CHANGES = 12288   /* no list of a home form's changes has more numbers */
+    BRASSDOZEN_CHANGES = 12288,  /* no list of a home form's changes has more numbers */
+    /* the numbers of a row, and of a tally */
+    BRASSDOZEN_ROW = BRASSDOZEN_ROW_OPERANDS + BRASSDOZEN_PLACES * BRASSDOZEN_PARTS,
+    BRASSDOZEN_TALLY = 13 + BRASSDOZEN_NAMES
 };
 
-/* A row: an instruction value as numbers.
+/* A row: an instruction value as numbers. The constants BRASSDOZEN_ROW_.. and, within an operand, BRASSDOZEN_PART_.. are the places.
 
     0  address, 64 bits, as given
-    1  name, by its number (crates/insn/src/name.rt)
-    2  condition, bits 31:28 of the word
-    3  flow: 0 next, 1 jump, 2 jump under a condition, 3 jump through a register, 4 call, 5 call through a register, 6 return, 7 trap
+    1  name: BRASSDOZEN_NAME_..
+    2  condition, bits 31:28 of the word: BRASSDOZEN_CONDITION_..
+    3  flow, BRASSDOZEN_FLOW_..: next, jump, jump under a condition, jump through a register, call, call through a register, return, trap
     4  where a jump or a call goes, or 0
     5  six operands, of eleven numbers each, 0 where the kind has none:
 
-    +0  kind: 0 none, 1 register, 2 shifted register, 3 shift by a register, 4 shift of a saturate, 5 rotation, 6 signed count,
-        7 unsigned number, 8 status mask, 9 status register, 10 register that is written back, 11 list of registers, 12 address, 13 memory,
-        14 option of a barrier, 15 coprocessor, 16 register of a coprocessor
+    +0  kind, BRASSDOZEN_OPERAND_..: none, register, shifted register, shift by a register, shift of a saturate, rotation, signed count,
+        unsigned number, status mask, status register, register that is written back, list of registers, address, memory, option of a
+        barrier, coprocessor, register of a coprocessor
     +1  register, or base
-    +2  kind of a shift: 0 lsl, 1 lsr, 2 asr, 3 ror; or status register: 0 the application's, 1 the saved one; or 1 if memory has an index
+    +2  kind of a shift, BRASSDOZEN_SHIFT_..; or status register, BRASSDOZEN_STATUS_..; or 1 if memory has an index
     +3  amount of a shift, of a rotation or of the index; or status mask; or option; or number of a coprocessor or of its register
     +4  1 if the count or displacement is negative
     +5  count or displacement, of a negative one its complement: -1 is 1 and 0; or number, list or address
     +6  index register
-    +7  mode of memory: 0 offset, 1 before, 2 after
+    +7  mode of memory, BRASSDOZEN_MODE_..
     +8  bytes of memory
     +9  1 if the displacement reads in base ten
     +10 1 if a displacement of zero is subtracted */
@@ -117,6 +102,13 @@ uint64_t brassdozen_line(uint64_t address, uint32_t word, uint8_t *out, size_t l
    A section that is not accepted has a listing of one line, "refused N". A refusal changes no byte of `out`, and nothing changes one after
    the listing. Where `length` is below 64 and 96 for each word, the section is gone through twice, for the listing's length and to write it. */
 uint64_t brassdozen_listing(const uint8_t *section, size_t bytes, uint8_t *out, size_t length);
+
+/* Says what stands at a place of a section, which is the number of a word in it, from 0: writes to the first three numbers of `out` the address of
+   the word at `place`, the word, and 1 if it is data and 0 if not, and the result is 0. A section that is not accepted is refused with 5, 6, 7, 8,
+   9 or 11, as its listing says; else a `place` that is none of its places with 13; and else a `length` below 3 with 10. A refusal changes no number
+   of `out`, and nothing changes one after the third. So a loop from place 0 on until 13 goes through the section's words and data, in order. Each
+   call checks the section, of which it reads the header, the ranges and that one word. */
+uint8_t brassdozen_place(const uint8_t *section, size_t bytes, uint32_t place, uint32_t *out, size_t length);
 
 /* Writes a section as one of version 1 to the start of `out`, and gives its length: one of version 1 as it is, one of version 2 without its
    count of ranges. A section that is not accepted is refused with 5, 6, 7, 8, 9 or 11, as its listing says; else one with ranges with 12; and
@@ -161,13 +153,14 @@ enum {
     BRASSDOZEN_WORDS = 1,    /* words, data among them */
     BRASSDOZEN_DATA = 2,     /* words that are data */
     BRASSDOZEN_REFUSED = 1,  /* words that are refused: with number n, 2 or 3, at place 1 + n */
-    BRASSDOZEN_FLOWS = 5,    /* accepted words by their flow: with flow n, 0 to 7 as a row has it, at place 5 + n */
-    BRASSDOZEN_ROOTS = 13    /* accepted words by their name: with name n, 0 to 157 as a row has it, at place 13 + n */
+    BRASSDOZEN_FLOWS = 5,    /* accepted words by their flow: with flow n, as a row has it, at place 5 + n */
+    BRASSDOZEN_ROOTS = 13    /* accepted words by their name: with name n, as a row has it, at place 13 + n */
 };
 
-/* Adds a section to the tally in the first 171 numbers of `counts`, and the result is 0. A tally of no sections is zeros. A section that is not
-   accepted is refused with 5, 6, 7, 8, 9 or 11, as its listing says; else, with 10, a `length` below 171, of which nothing is read; and else, with
-   16, exactly if 65,536 sections or more are in the tally. A refusal changes no number of `counts`, and nothing changes one after the 171.
+/* Adds a section to the tally in the first BRASSDOZEN_TALLY numbers of `counts`, and the result is 0. A tally of no sections is zeros. A section
+   that is not accepted is refused with 5, 6, 7, 8, 9 or 11, as its listing says; else, with 10, a `length` below BRASSDOZEN_TALLY, of which
+   nothing is read; and else, with 16, exactly if 65,536 sections or more are in the tally. A refusal changes no number of `counts`, and nothing
+   changes one after the tally.
 
    So from zeros on, whatever was refused on the way, each number is how many of what it counts the sections that were added have, in any order;
    flows and names each sum to the accepted words, and words are those, the refused ones and data. Other numbers are taken for a tally too, and

@@ -1,22 +1,10 @@
 /* The header's promises, through the header. Standard input has lines as crates/answers/stdout has them: an address, a digest and the line of
    a word, as the oracle has them. */
 #include "brassdozen.h"
+#include "check.h"
 
 #include <inttypes.h>
-#include <stdio.h>
-#include <stdlib.h>
 #include <string.h>
-
-static unsigned long checks;
-
-#define CHECK(holds)                                                        \
-    do {                                                                    \
-        checks++;                                                           \
-        if (!(holds)) {                                                     \
-            fprintf(stderr, "%s:%d: %s\n", __FILE__, __LINE__, #holds);     \
-            exit(1);                                                        \
-        }                                                                   \
-    } while (0)
 
 enum { UNTOUCHED = 0xa5, ROOM = BRASSDOZEN_ROW + 3 };
 
@@ -136,6 +124,9 @@ static void check_listing(const uint8_t *words, size_t count)
         CHECK(memcmp(out + at, line, bytes) == 0);
         at += bytes;
         named += brassdozen_refusal(brassdozen_home(word)) == 0;
+        uint32_t here[3];
+        CHECK(brassdozen_place(section, 9 + 4 * count, (uint32_t)place, here, 3) == 0);
+        CHECK(here[0] == 4 * place && here[1] == word && here[2] == 0);
     }
     size_t last = (size_t)sprintf(expected, "%zu words %zu named %zu refused\n", count, named, count - named);
     CHECK(memcmp(out + at, expected, last) == 0 && at + last == length);
@@ -152,6 +143,28 @@ static void check_listing(const uint8_t *words, size_t count)
         CHECK(brassdozen_listing(section, 8 + 4 * count, out, sizeof out) == 10);
         CHECK(memcmp(out, "refused 7\n", 10) == 0);
     }
+}
+
+/* What stands at each place of a section, in each room: it is written whole, or not at all. */
+static void check_place(void)
+{
+    uint8_t section[] = {'R', 'S', 'X', 2, 0, 0, 0x80, 0, 0, 1, 0, 1, 0, 0, 0, 1, 0, 0, 0, 0x1e, 0xff, 0x2f, 0xe1, 0x78, 0x56, 0x34, 0x12};
+    static const uint32_t expected[2][3] = {{0x8000, 0xe12fff1e, 0}, {0x8004, 0x12345678, 1}};
+    uint32_t out[5];
+    for (size_t length = 0; length <= 5; length++) {
+        for (uint32_t place = 0; place < 4; place++) {
+            unsigned refusal = place >= 2 ? BRASSDOZEN_NO_PLACE : length < 3 ? BRASSDOZEN_NO_ROOM : 0;
+            memset(out, UNTOUCHED, sizeof out);
+            CHECK(brassdozen_place(section, sizeof section, place, out, length) == refusal);
+            CHECK(refusal ? untouched(out, out + 5) : memcmp(out, expected[place], sizeof expected[place]) == 0 && untouched(out + 3, out + 5));
+        }
+        memset(out, UNTOUCHED, sizeof out);
+        CHECK(brassdozen_place(section, sizeof section, UINT32_MAX, out, length) == BRASSDOZEN_NO_PLACE);
+        CHECK(brassdozen_place(section, 8, 0, out, length) == BRASSDOZEN_BAD_LENGTH);
+        CHECK(untouched(out, out + 5));
+    }
+    section[11] = 2; /* the range is no longer in the section */
+    CHECK(brassdozen_place(section, sizeof section, 9, out, 0) == BRASSDOZEN_BAD_RANGES);
 }
 
 typedef uint64_t converter(const uint8_t *, size_t, uint8_t *, size_t);
@@ -616,6 +629,7 @@ int main(void)
     check_listing(words, 0);
     check_listing(words, 1);
     check_listing(words, count);
+    check_place();
     check_conversion(words, 0);
     check_conversion(words, 1);
     check_conversion(words, count);

@@ -1,16 +1,44 @@
 //! Brassdozen for Rust: a decoder, an encoder and a lister of A32, a walk through it, counts and
 //! patches over it, an index of its calls and its home form, proved to meet their contracts.
 //!
-//! Each function here is safe and calls one of `include/brassdozen.h`, which has its contract in
-//! words, and the layout of a row.
+//! [`Insn`] is an instruction with a type for each of its parts: decoded, encoded, printed and
+//! parsed. [`places`] goes through a section.
+//!
+//! Under these, each function of the crate is safe and calls one of `include/brassdozen.h`, which
+//! has its contract in words, and the layout of a row. [`names`] has the constants of rows.
+//!
+//! ```
+//! use brassdozen::{Flow, Insn};
+//!
+//! let insn = Insn::decode(0xebff_ffac, 0x0020_0238)?;
+//! assert_eq!(insn.to_string(), "bl @002000f0 call");
+//! assert_eq!(insn.flow, Flow::Call(0x0020_00f0));
+//! # Ok::<(), brassdozen::Refusal>(())
+//! ```
 
 #![no_std]
+#![warn(missing_docs)]
+
+mod insn;
+pub mod names;
+mod parse;
+mod refusal;
+mod row;
+mod section;
+mod text;
+
+pub use insn::{
+    Condition, Flow, Index, Insn, Memory, Mode, Name, Operand, Register, Shift, Status,
+};
+pub use parse::ParseError;
+pub use refusal::Refusal;
+pub use section::{Place, Places, What, place, places};
 
 /// The version that these declarations are of, as `BRASSDOZEN_VERSION` of the header says it.
-pub const VERSION: u32 = 30_400;
+pub const VERSION: u32 = 30_500;
 
 /// How many numbers a row has.
-pub const ROW: usize = 71;
+pub const ROW: usize = names::row::OPERANDS + names::PARTS * names::PLACES;
 
 /// No line has more bytes.
 pub const LINE: usize = 96;
@@ -25,102 +53,13 @@ pub const SECTION: usize = 16_907;
 pub const REPORT: usize = 49_152;
 
 /// How many numbers a tally has.
-pub const TALLY: usize = 171;
+pub const TALLY: usize = count::ROOTS + names::NAMES;
 
 /// So many numbers are lent for an index of calls.
 pub const INDEX: usize = 2_048;
 
 /// No list of a home form's changes has more numbers.
 pub const CHANGES: usize = 12_288;
-
-/// The number of a refusal.
-#[derive(Debug, Clone, Copy, PartialEq, Eq)]
-pub struct Refusal(pub u8);
-
-impl Refusal {
-    /// Decoding bytes: fewer than four.
-    pub const SHORT: Refusal = Refusal(1);
-
-    /// Decoding: condition below 15, bits 27:26 = 11, coprocessor 10 or 11.
-    pub const COPROCESSOR: Refusal = Refusal(2);
-
-    /// Decoding: any other word that names no instruction that is known.
-    pub const NO_ROW: Refusal = Refusal(3);
-
-    /// Encoding: no word's answer has this row.
-    pub const NO_WORD: Refusal = Refusal(4);
-
-    /// A section: its mark is not RSX.
-    pub const BAD_MARK: Refusal = Refusal(5);
-
-    /// A section: its version is neither 1 nor 2.
-    pub const BAD_VERSION: Refusal = Refusal(6);
-
-    /// A section: shorter than 9 bytes, the count of ranges or a range cut short, or not whole words.
-    pub const BAD_LENGTH: Refusal = Refusal(7);
-
-    /// A section: more than 4,096 words.
-    pub const TOO_MANY_WORDS: Refusal = Refusal(8);
-
-    /// A section: its base is no multiple of 4, or its words go beyond the last address.
-    pub const BAD_BASE: Refusal = Refusal(9);
-
-    /// Writing: longer than what is lent. Adding: fewer numbers lent than a tally has. An index: fewer
-    /// than 2,048.
-    pub const NO_ROOM: Refusal = Refusal(10);
-
-    /// A section: more than 64 ranges, or one that is empty, not in the section, or not after the
-    /// one before it.
-    pub const BAD_RANGES: Refusal = Refusal(11);
-
-    /// Converting to version 1: a section with ranges.
-    pub const HAS_RANGES: Refusal = Refusal(12);
-
-    /// Walking: the entry is no place of the section. Replacing a word: its place is none.
-    pub const NO_PLACE: Refusal = Refusal(13);
-
-    /// Looking up a run: it is empty, or neither section nor patch holds all of it.
-    pub const NO_RUN: Refusal = Refusal(14);
-
-    /// An index: it has, or would have, more than 1,024 calls.
-    pub const TOO_MANY_CALLS: Refusal = Refusal(15);
-
-    /// Adding to a tally: 65,536 sections are in it.
-    pub const TOO_MANY_SECTIONS: Refusal = Refusal(16);
-}
-
-impl core::error::Error for Refusal {}
-
-impl core::fmt::Display for Refusal {
-    fn fmt(&self, f: &mut core::fmt::Formatter<'_>) -> core::fmt::Result {
-        // As refusals.txt has them.
-        let why = match self.0 {
-            1 => ": fewer than 4 bytes",
-            2 => ": out of scope: condition below 15, bits 27:26 = 11, coprocessor 10 or 11",
-            3 => ": no instruction that is known here",
-            4 => ": no word has this answer",
-            5 => ": mark not RSX",
-            6 => ": version neither 1 nor 2",
-            7 => {
-                ": shorter than 9 bytes, the count of ranges or a range cut short, or not whole words"
-            }
-            8 => ": more than 4,096 words",
-            9 => ": base not a multiple of 4, or words beyond the last address",
-            10 => ": longer than the lent buffer",
-            11 => {
-                ": more than 64 ranges of data, or one that is empty, not in the section, \
-                 or not after the one before it"
-            }
-            12 => ": ranges of data, which version 1 does not have",
-            13 => ": not a place in the section",
-            14 => ": run that is empty, or not held by section or patch alone",
-            15 => ": more than 1,024 calls for an index",
-            16 => ": 65,536 sections in the tally already",
-            _ => "",
-        };
-        write!(f, "refused {}{why}", self.0)
-    }
-}
 
 /// The version of the library that is linked.
 pub fn version() -> u32 {
@@ -488,6 +427,13 @@ mod foreign {
             out: *mut u32,
             room: usize,
         ) -> u64;
+        pub fn brassdozen_place(
+            section: *const u8,
+            bytes: usize,
+            place: u32,
+            out: *mut u32,
+            length: usize,
+        ) -> u8;
         pub fn brassdozen_home_form(
             section: *mut u8,
             bytes: usize,

@@ -18,6 +18,7 @@ use Rattle.brassdozen.proofs.brassdozen_home.Reads as home
 use Rattle.brassdozen.proofs.brassdozen_home_zeros.Reads as home-zeros
 use Rattle.brassdozen.proofs.brassdozen_line.Reads as line
 use Rattle.brassdozen.proofs.brassdozen_listing.Reads as listing
+use Rattle.brassdozen.proofs.brassdozen_place.Reads as place
 use Rattle.brassdozen.proofs.brassdozen_walk.Reads as walk
 use Rattle.brassdozen.proofs.brassdozen_tally.Reads as tally
 use Rattle.brassdozen.proofs.brassdozen_run.Reads as run
@@ -58,6 +59,10 @@ line-only κs a r r′ s s′ p q = (p .0 ∙ sym (q .0), p .1 ∙ sym (q .1))
 pub listing-only : (κs : _) (a : _) (r r′ : _) (s s′ : _) → listing.Post κs a r s → listing.Post κs a r′ s′
     → (r ≡ r′) × (now (s .1 .0) ≡ now (s′ .1 .0))
 listing-only κs a r r′ s s′ p q = (p .0 ∙ sym (q .0), p .1 ∙ sym (q .1))
+
+pub place-only : (κs : _) (a : _) (r r′ : _) (s s′ : _) → place.Post κs a r s → place.Post κs a r′ s′
+    → (r ≡ r′) × (now (s .1 .1 .0) ≡ now (s′ .1 .1 .0))
+place-only κs a r r′ s s′ p q = (p .0 ∙ sym (q .0), p .1 ∙ sym (q .1))
 
 pub to-v1-only : (κs : _) (a : _) (r r′ : _) (s s′ : _) → to-v1.Post κs a r s → to-v1.Post κs a r′ s′ → (r ≡ r′) × (now (s .1 .0) ≡ now (s′ .1 .0))
 to-v1-only κs a r r′ s s′ p q = (p .0 ∙ sym (q .0), p .1 ∙ sym (q .1))

@@ -1,11 +1,11 @@
 -- What the functions for other languages give and leave.
 use mathlib.Core.Path.{_≡_}
-use mathlib.Core.List.{List}
+use mathlib.Core.List.{List, [], _∷_}
 use Prim.Native.Nat.{ℕ, _+_, _*_, _^_}
 use lib.Dec.{eqb}
 use lib.ListN.{getD}
 use Rattle.word.specs.Choice.{pick, both}
-use Rattle.word.specs.Refusal.{NO_WORD}
+use Rattle.word.specs.Refusal.{NO_WORD, NO_PLACE}
 use Rattle.insn.specs.declared.Decoded.{Decoded}
 use Rattle.a32.specs.Decode.{decodeOf}
 use Rattle.encode_home.specs.declared.Filler.{Filler}
@@ -14,6 +14,9 @@ use Rattle.encode.specs.Encode.{homeAnswer}
 use Rattle.insn_value.specs.Value.{insnFrom}
 use Rattle.word_packed.specs.Packed.{packed}
 use Rattle.text.specs.Fits.{answerOf, lastOf}
+use Rattle.section.specs.Section.{refusalOf, isEnd, hereOf}
+use Rattle.section.specs.declared.Here.{Here}
+use Rattle.section.specs.declared.Here.the-variants.{Word, Data, End}
 use Rattle.section_convert.specs.Convert.{givenOf}
 use Rattle.section_convert.specs.declared.Target.{Target}
 use Rattle.callers_index.specs.Entries.{foundOf, leftOf}
@@ -28,9 +31,9 @@ use Rattle.patch.specs.declared.Found.the-variants.{Patch, Section, Refused}
 use Rattle.patched.specs.Patched.{patchedGiven}
 use Rattle.insn_row.specs.Row.{ROW, rowOf, numbersOf, holds}
 
--- 3.4.0
+-- 3.5.0
 abbrev pub VERSION : ℕ
-VERSION = 30400
+VERSION = 30500
 
 -- an answer's refusal; or, of an accepted one, 10 if its row is longer than what is lent
 abbrev pub rowRefusal : Decoded → List ℕ → ℕ
@@ -63,6 +66,24 @@ homedOf c w = packed (homeAnswer c w .refusal) (homeAnswer c w .word)
 -- the length of a text, or 10 if it is longer than what is lent
 abbrev pub writtenOf : List ℕ → List ℕ → ℕ
 writtenOf text out = packed (answerOf text out .refusal) (answerOf text out .len)
+
+-- what stands at a place, in three numbers: its address, the word, and 1 if it is data; at the end there are none
+abbrev pub hereRow : Here → List ℕ
+hereRow (Word word address) = address ∷ word ∷ 0 ∷ []
+hereRow (Data word address) = address ∷ word ∷ 1 ∷ []
+hereRow End = []
+
+-- 13 at the end; else 10 if fewer numbers are lent
+abbrev pub hereRefusal : Here → List ℕ → ℕ
+hereRefusal here out = pick (isEnd here) NO_PLACE (answerOf (hereRow here) out .refusal)
+
+-- a section's own refusal comes first
+abbrev pub placeRefusal : List ℕ → ℕ → List ℕ → ℕ
+placeRefusal s place out = pick (eqb (refusalOf s) 0) (hereRefusal (hereOf s place) out) (refusalOf s)
+
+-- the numbers stand at the start; a section that is refused has no places, so nothing changes
+abbrev pub placeLast : List ℕ → ℕ → List ℕ → List ℕ
+placeLast s place out = lastOf (hereRow (hereOf s place)) out
 
 -- the length of a converted section, or the refusal's number
 abbrev pub convertedTo : Target → List ℕ → List ℕ → ℕ

@@ -18,13 +18,19 @@ use listing_text::listing;
 use patch::Found;
 use patch::find;
 use patched::patched;
+use section::Here;
+use section::open;
+use section::read;
 use section_convert::Target;
 use section_convert::convert;
 use tally::add_to;
 use walk::walk;
+use word::refusal::NO_PLACE;
+use word::refusal::NO_ROOM;
 use word::refusal::NO_WORD;
 use word_packed::pack;
 ghost use mathlib.Core.Path.{_≡_};
+ghost use mathlib.Core.List.{[], _∷_};
 ghost use Rattle.a32.specs.Decode.{decodeOf, decodeBytesOf};
 ghost use Rattle.text.specs.Fits.{answerOf, lastOf};
 ghost use Rattle.line_spelling.specs.Line.{lineOf};
@@ -35,6 +41,7 @@ ghost use Rattle.patch.specs.Image.{_from_};
 ghost use Rattle.patch.specs.Run.{foundOf};
 ghost use Rattle.patched.specs.Patched.{patchedLeft};
 ghost use Rattle.brassdozen.specs.Given.{WalksForC, foundForC, patchedFor, BuildsForC, ReplacesForC, FindsForC, PutsHomeForC};
+ghost use Rattle.brassdozen.specs.Given.{hereRow, hereRefusal, placeRefusal, placeLast};
 ghost use Rattle.brassdozen.specs.Given.{VERSION, rowRefusal, rowLast, encodedOf, homedOf, writtenOf, convertedTo};
 
 /// The library's version: 10,000 for each major one, 100 for each minor one, and one for each patch.
@@ -42,7 +49,7 @@ ghost use Rattle.brassdozen.specs.Given.{VERSION, rowRefusal, rowLast, e
 pub extern "C" fn brassdozen_version() -> u32
     ensures { λ r. ⌜ r ≡ VERSION ⌝ }
 {
-    30_400
+    30_500
 }
 
 /// Decodes `word` at `addr` into the row of its answer, and gives 0; or gives a refusal's number.
@@ -149,6 +156,46 @@ pub extern "C" fn brassdozen_listing(section: &[u8], out: &mut [u8]) -> u64
 {
     let w = listing(section, out);
     pack(w.refusal, w.len as u32)
+}
+
+/// Writes the address of what stands at a place of `section`, the word, and 1 if it is data and 0 if not, and gives 0; or gives a refusal's number.
+#[no_mangle]
+pub extern "C" fn brassdozen_place(section: &[u8], place: u32, out: &mut [u32]) -> u8
+    ensures { λ r. ⌜ r ≡ placeRefusal (now (section .entry)) place (now (out .entry)) ⌝ }
+    ensures { λ _. ⌜ now (out .exit) ≡ placeLast (now (section .entry)) place (now (out .entry)) ⌝ }
+{
+    let opened = open(section);
+    if opened.refusal == 0 {
+        let step = read(section, opened, place as usize);
+        let here = step.here;
+        put_here(out, here)
+    } else {
+        opened.refusal
+    }
+}
+
+fn put_here(out: &mut [u32], here: Here) -> u8
+    ensures { λ r. ⌜ r ≡ hereRefusal here (now (out .entry)) ⌝ }
+    ensures { λ _. ⌜ now (out .exit) ≡ lastOf (hereRow here) (now (out .entry)) ⌝ }
+{
+    match here {
+        Here::Word(word, addr) => put_three(out, addr, word, 0),
+        Here::Data(word, addr) => put_three(out, addr, word, 1),
+        Here::End => NO_PLACE,
+    }
+}
+
+fn put_three(out: &mut [u32], a: u32, b: u32, c: u32) -> u8
+    ensures { λ r. ⌜ r ≡ answerOf (a ∷ b ∷ c ∷ []) (now (out .entry)) .refusal ⌝ }
+    ensures { λ _. ⌜ now (out .exit) ≡ lastOf (a ∷ b ∷ c ∷ []) (now (out .entry)) ⌝ }
+{
+    if out.len() < 3 {
+        return NO_ROOM;
+    }
+    out[0] = a;
+    out[1] = b;
+    out[2] = c;
+    0
 }
 
 /// Writes `section` as one of version 1, and gives its length, with a refusal's number above it.

@@ -2,7 +2,7 @@
 use mathlib.Core.Path.{_≡_, refl, sym, ap, _∙_, subst}
 use mathlib.Core.Bool.{Bool, true, false}
 use mathlib.Core.List.{List, [], _∷_, _++_}
-use Prim.Native.Nat.{ℕ, _+_}
+use Prim.Native.Nat.{ℕ}
 use Prim.Native.String.{String}
 use native.Mathlib.Omega.{arith}
 use borrow.Author.Tests.{eqb-true}
@@ -29,7 +29,7 @@ use Rattle.manual_drawn.proofs.Drawn.{answer-is}
 use Rattle.manual_drawn.proofs.Near.{putsBy, puts-by}
 use Rattle.manual_drawn.proofs.Pages.{answerOf}
 use Rattle.manual_drawn.proofs.Rows.{kept-row, based, based-rows}
-use Rattle.manual_drawn.proofs.Told.{allOf, one-of, noneTo, own}
+use Rattle.manual_drawn.proofs.Told.{allOf, one-of, noneTo, own-row}
 use Rattle.manual_drawn.proofs.Transfers.{Each, each-of, transfer-puts, puts, home-row, transfers-say}
 
 -- readings that differ in the mark of an operand
@@ -118,7 +118,7 @@ module _ (c : Filler) (w addr : ℕ) (ok : (decodeOf w 0) .refusal ≡ 0) where
       of-page = one-of (λ s. both (isAmong s based) (noneTo s (sees w))) (rowOf w) titles (subst T (sym good) tt) is
 
       table : tableRow w ≡ rowOf w
-      table = own (tableRow w) (rowOf w) (sees w) (right (isAmong (rowOf w) based) _ of-page) (unfold rowOf pageOf in refl)
+      table = own-row w (right (isAmong (rowOf w) based) _ of-page)
 
       kept : rowOf w ≡ tableRow (put w 23 1 1)
       kept =

@@ -33,7 +33,7 @@ use Rattle.manual_drawn.proofs.Near.{Near, near-back, near-put, within}
 use Rattle.manual_drawn.proofs.Nearby.{shifts-alike, hints-alike, returns-alike, pldw-alike}
 use Rattle.manual_drawn.proofs.Pages.{answerOf}
 use Rattle.manual_drawn.proofs.Rows.{kept-row, shifts, based, based-rows, no-transfer}
-use Rattle.manual_drawn.proofs.Told.{allOf, one-of, noneTo, own, moves, others, hint-told, returns-tell}
+use Rattle.manual_drawn.proofs.Told.{allOf, one-of, noneTo, own-row, moves, others, hint-told, returns-tell}
 use Rattle.manual_drawn.proofs.Transfers.{each-of}
 
 the-one : (row s : String) → isAmong row (s ∷ []) ≡ true → row ≡ s
@@ -113,7 +113,7 @@ module _ (c : Filler) (w v addr : ℕ) (ok : (decodeOf w 0) .refusal ≡ 0) (dep
       among = left (isAmong (rowOf w) based) _ of-page
 
       table : tableRow w ≡ rowOf w
-      table = own (tableRow w) (rowOf w) (sees w) (right (isAmong (rowOf w) based) _ of-page) (unfold rowOf pageOf in refl)
+      table = own-row w (right (isAmong (rowOf w) based) _ of-page)
 
       kept : tableRow w ≡ tableRow v
       kept = let (above, below) = of-list 23 24 titles t is in kept-row based _ _ (based-rows w v above below) (rw table (passes _ among))
@@ -167,11 +167,7 @@ module _ (c : Filler) (w addr : ℕ) (bound : w < 2 ^ 32) (ok : (decodeOf w 0) .
             (one-of (λ s. isDeparture (standingOf s w)) (rowOf w) onePages (unfold standingOf in tt) (passes _ (simp (d, p) at is)))
 
         of-table : isAmong (rowOf home) coprocessorTransfers ≡ true → isAmong (tableRow home) coprocessorTransfers ≡ true
-        of-table is =
-            let table : tableRow home ≡ rowOf home =
-            own (tableRow home) (rowOf home) (sees home) (one-of (λ s. noneTo s (sees home)) (rowOf home) coprocessorTransfers tt is)
-            (unfold rowOf pageOf in refl) in
-            rw table is
+        of-table is = rw (own-row home (one-of (λ s. noneTo s (sees home)) (rowOf home) coprocessorTransfers tt is)) is
 
   others-claim : coprocessor w ≡ false → isAmong (rowOf w) displaced ≡ false → isAmong (rowOf w) preloads ≡ false
       → isAmong (rowOf w) coprocessorTransfers ≡ false → saidAt w addr ≡ saidAt home addr

@@ -26,7 +26,7 @@ use Rattle.manual.specs.Departures.{Standing, follows, departs, standingOf, por
 use Rattle.manual.specs.Departures.{compares, extraIndexes, literals, hints, extends, barriers}
 use Rattle.manual.specs.Reads.{isSet, isMinusZero}
 use Rattle.manual.specs.ShouldBe.{shouldBe, asDrawn}
-use Rattle.manual.proofs.Fields.{by-field, both-false, pick-same, no-true, _also_}
+use Rattle.manual.proofs.Fields.{by-field, both-false, pick-same, no-true, same, same→eq, _also_}
 use Rattle.manual.proofs.Pages.{returns}
 use Rattle.manual_drawn.specs.Exceptions.{exceptedAs}
 use Rattle.manual_drawn.proofs.Told.{allOf, one-of, moves, others, noField, msr-told, pld-told, hint-told, returns-tell}
@@ -37,25 +37,15 @@ answerOf w follows page = answered (saidOf w 0 page)
 answerOf w (departs it) page = portOf w 0 it (tableRow w) page
 
 -- where it is accepted, the home word is as drawn, exactly if the word is under no exception
-abbrev same : Bool → Bool → Bool
-same true b = b
-same false b = not b
-
 unfoldable pub drawnBut : ℕ → String → Bool
 drawnBut w s = pick (eqb (d .refusal) 0) (same (asDrawn s (putAll Manual (putsOf (d .insn)) w)) (not (exceptedAs s w))) true
   where
     d : Decoded
     d = answerOf w (standingOf s w) s
 
-same-so : (a b : Bool) → T (same a b) → a ≡ b
-same-so true true t = refl
-same-so false false t = refl
-same-so true false t = absurd t
-same-so false true t = absurd t
-
 pub drawn-so : (w : ℕ) (s : String) → T (drawnBut w s) → (answerOf w (standingOf s w) s) .refusal ≡ 0
     → asDrawn s (putAll Manual (putsOf ((answerOf w (standingOf s w) s) .insn)) w) ≡ not (exceptedAs s w)
-drawn-so w s t ok = unfold drawnBut in same-so _ _ (simp ok at t)
+drawn-so w s t ok = unfold drawnBut in same→eq _ _ (simp ok at t)
 
 -- titles that are shown alike: a name by bit 20; by bits 5 and 6; one name
 abbrev flagged : List String

@@ -176,6 +176,10 @@ own row s (x ∷ xs) t e =
     same : x .to ≡ s → T (eqt (x .to) s)
     same is = subst (λ (y : String). T (eqt (x .to) y)) is (eqt-refl (x .to))
 
+-- a page that no other row leads to is that of its own row
+pub own-row : (w : ℕ) → T (noneTo (rowOf w) (sees w)) → tableRow w ≡ rowOf w
+own-row w none = own (tableRow w) (rowOf w) (sees w) none (unfold rowOf pageOf in refl)
+
 module _ (w : ℕ) where
   -- a page that no other leads to tells what its row does
   told : (s : String) → T (noneTo s (sees w)) → rowOf w ≡ s → tells w s ≡ true

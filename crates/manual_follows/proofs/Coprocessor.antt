@@ -24,16 +24,17 @@ a7 : (w : ℕ) → isA7 (field w 8 4) ≡ floatingOf w
 a7 w = unfold floatingOf in
     same→eq (isA7 (field w 8 4)) _ (at-each (λ n. same (isA7 n) (pick (eqb n 10) true (eqb n 11))) 16 tt (field w 8 4) (small w 8 4))
 
+-- 25:20 by its bits
+pub six : (w : ℕ) → field w 20 6 ≡ ((((field w 25 1 * 2 + field w 24 1) * 2 + field w 23 1) * 2 + field w 22 1) * 2 + field w 21 1) * 2 + field w 20 1
+six w = omega (arith, splits w 20 5 1, splits w 21 4 1, splits w 22 3 1, splits w 23 2 1, splits w 24 1 1)
+
 module _ (w addr : ℕ) (cond : eqb (field w 28 4) 15 ≡ false) (other : floatingOf w ≡ false) where
   generic : isA7 (field w 8 4) ≡ false
   generic = a7 w ∙ other
 
-  -- 27:24 by 27:25 and bit 24; 25:20 by its bits
+  -- 27:24 by 27:25 and bit 24
   high : field w 24 4 ≡ field w 25 3 * 2 + field w 24 1
   high = splits w 24 3 1
-
-  six : field w 20 6 ≡ ((((field w 25 1 * 2 + field w 24 1) * 2 + field w 23 1) * 2 + field w 22 1) * 2 + field w 21 1) * 2 + field w 20 1
-  six = omega (arith, splits w 20 5 1, splits w 21 4 1, splits w 22 3 1, splits w 23 2 1, splits w 24 1 1)
 
   -- imm8:'00'
   words : 4 * field w 0 8 ≡ field w 0 8 * 4
@@ -49,11 +50,11 @@ module _ (w addr : ℕ) (cond : eqb (field w 28 4) 15 ≡ false) (other : floati
     module _ (some : 0 < field w 24 1 + field w 23 1 + field w 21 1) where
       four : eqb (field w 20 6) 4 ≡ false
       four =
-          ne-eqb (field w 20 6) 4 (λ e. omega (arith, e, six, low, some, small w 24 1, small w 23 1, small w 22 1, small w 21 1, small w 20 1))
+          ne-eqb (field w 20 6) 4 (λ e. omega (arith, e, six w, low, some, small w 24 1, small w 23 1, small w 22 1, small w 21 1, small w 20 1))
 
       five : eqb (field w 20 6) 5 ≡ false
       five =
-          ne-eqb (field w 20 6) 5 (λ e. omega (arith, e, six, low, some, small w 24 1, small w 23 1, small w 22 1, small w 21 1, small w 20 1))
+          ne-eqb (field w 20 6) 5 (λ e. omega (arith, e, six w, low, some, small w 24 1, small w 23 1, small w 22 1, small w 21 1, small w 20 1))
 
       two : field w 24 1 ≡ 0 → eqb (field w 21 3) 2 ≡ false
       two clear =
@@ -123,8 +124,8 @@ module _ (w addr : ℕ) (cond : eqb (field w 28 4) 15 ≡ false) (other : floati
         by-field w 22 1
         ((λ d. simp (here, cond, other, group, low, p, u, v, d, three 0 d) (holds refl)) also
         (λ d. by-field w 20 1
-        ((λ l. simp (here, six, cond, other, group, low, p, u, v, d, l, three 1 d) (holds refl)) also
-        (λ l. simp (here, six, cond, other, group, low, p, u, v, d, l, three 1 d) (holds refl)) also tt)) also tt)
+        ((λ l. simp (here, six w, cond, other, group, low, p, u, v, d, l, three 1 d) (holds refl)) also
+        (λ l. simp (here, six w, cond, other, group, low, p, u, v, d, l, three 1 d) (holds refl)) also tt)) also tt)
 
     pub move-or-transfer : HeldAt w addr
     move-or-transfer =
@@ -141,8 +142,8 @@ module _ (w addr : ℕ) (cond : eqb (field w 28 4) 15 ≡ false) (other : floati
   pub operation : field w 25 3 ≡ 7 → HeldAt w addr
   operation group = unfold decodeOf groupOf saidOf pageOf standingOf A.tableRow A.coprocessor in
       let top : field w 25 1 ≡ 1 = simp (group-25, group) in
-      let four : eqb (field w 20 6) 4 ≡ false = ne-eqb (field w 20 6) 4 (λ e. omega (arith, e, six, top)) in
-      let five : eqb (field w 20 6) 5 ≡ false = ne-eqb (field w 20 6) 5 (λ e. omega (arith, e, six, top)) in
+      let four : eqb (field w 20 6) 4 ≡ false = ne-eqb (field w 20 6) 4 (λ e. omega (arith, e, six w, top)) in
+      let five : eqb (field w 20 6) 5 ≡ false = ne-eqb (field w 20 6) 5 (λ e. omega (arith, e, six w, top)) in
       by-field w 24 1
       ((λ p. by-field w 4 1
       ((λ b. simp (here, cond, other, group, top, four, five, p, b) (holds refl)) also

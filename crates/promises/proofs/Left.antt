@@ -14,11 +14,14 @@ use Rattle.insn.specs.declared.Decoded.{Decoded}
 use Rattle.text.specs.Text.{written}
 use Rattle.text.specs.Fits.{answerOf, lastOf}
 use Rattle.text.specs.declared.Written.{Written}
+use Rattle.section.specs.Section.{refusalOf, openedOf, isEnd, placesOf, hereOf}
+use Rattle.section.proofs.Places.{before-end, at-end, something}
 use Rattle.section_convert.specs.Convert.{convertedOf, conversionRefusal, givenOf, leftOf}
 use Rattle.section_convert.specs.declared.Target.{Target}
 use Rattle.patched.specs.Patched.{patchedOf, patchedRefusal, patchedGiven, patchedLeft}
 use Rattle.insn_row.specs.Row.{rowOf}
-use Rattle.brassdozen.specs.Given.{rowRefusal, rowLast}
+use Rattle.brassdozen.specs.Given.{rowRefusal, rowLast, hereRow, placeRefusal, placeLast}
+use Rattle.brassdozen.proofs.Placed.{none-written}
 
 -- a text that fits is written, and one that does not leaves all as it was
 pub puts : {A : Type 0} (gives : ℕ → ℕ → A) (text out : List ℕ)
@@ -102,3 +105,16 @@ puts-patched gives s p out = unfold patchedGiven patchedLeft in puts-after (patc
 pub is-patched : (s p out : List ℕ) → patchedGiven s p out .refusal ≡ 0
     → (patchedRefusal s p ≡ 0) × (take (patchedGiven s p out .len) (patchedLeft s p out) ≡ patchedOf s p)
 is-patched s p out = unfold patchedGiven patchedLeft in is-written (patchedRefusal s p) (patchedOf s p) out
+
+-- what stands at a place of an accepted section is such a text too, and there is none from the number of its places on
+module _ (s : List ℕ) (place : ℕ) (out : List ℕ) (ok : refusalOf s ≡ 0) where
+  pub puts-place : place < length (placesOf s)
+      → (length (hereRow (hereOf s place)) ≤ length out
+      → (placeRefusal s place out ≡ 0) × (placeLast s place out ≡ hereRow (hereOf s place) ++ drop (length (hereRow (hereOf s place))) out))
+      × (length out < length (hereRow (hereOf s place)) → (placeRefusal s place out ≡ 10) × (placeLast s place out ≡ out))
+  puts-place inside =
+      let stands : isEnd (hereOf s place) ≡ false = rw (before-end s inside) (something s (openedOf s) place) in
+      simp (eq-eqb (refusalOf s) 0 ok, stands) (puts (λ n len. n) (hereRow (hereOf s place)) out)
+
+  pub no-more : length (placesOf s) ≤ place → (placeRefusal s place out ≡ 13) × (placeLast s place out ≡ out)
+  no-more beyond = rw (at-end s beyond) (simp (eq-eqb (refusalOf s) 0 ok), sym (none-written out))

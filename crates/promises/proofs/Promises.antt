@@ -70,7 +70,7 @@ use Rattle.manual_drawn.specs.HomeReads.{SaidAs, homely, saidAt, unmarked}
 use Rattle.manual.specs.Stands.{Stands, inRange}
 use Rattle.manual_drawn.specs.Exceptions.{excepted}
 use Rattle.insn_row.specs.Row.{rowOf}
-use Rattle.brassdozen.specs.Given.{Answers, WalksForC, foundForC, BuildsForC, ReplacesForC, FindsForC, PutsHomeForC}
+use Rattle.brassdozen.specs.Given.{Answers, hereRow, WalksForC, foundForC, BuildsForC, ReplacesForC, FindsForC, PutsHomeForC}
 use Rattle.a32.proofs.decode as decode
 use Rattle.a32.proofs.decode_bytes as decode-bytes
 use Rattle.encode.proofs.encode as encode
@@ -100,6 +100,7 @@ use Rattle.brassdozen.proofs.brassdozen_home as c-home
 use Rattle.brassdozen.proofs.brassdozen_home_zeros as c-home-zeros
 use Rattle.brassdozen.proofs.brassdozen_line as c-line
 use Rattle.brassdozen.proofs.brassdozen_listing as c-listing
+use Rattle.brassdozen.proofs.brassdozen_place as c-place
 use Rattle.brassdozen.proofs.brassdozen_to_v1 as c-to-v1
 use Rattle.brassdozen.proofs.brassdozen_to_v2 as c-to-v2
 use Rattle.brassdozen.proofs.brassdozen_walk as c-walk
@@ -142,6 +143,7 @@ use Rattle.listing_text.proofs.Grow as Grow
 use Rattle.listing_text.proofs.Example as Listed
 use Rattle.brassdozen.proofs.Back as Back
 use Rattle.brassdozen.proofs.Exactly as Exactly
+use Rattle.brassdozen.proofs.Placed as Placed
 use Rattle.promises.proofs.Left as Left
 use Rattle.promises.proofs.Unindexed as Unindexed
 
@@ -281,6 +283,9 @@ module _ (κ κ′ : Lft) where
   abbrev WritesListingForC : (section out : Slice) → ℕ → (out′ : Slice) → Type 0
   WritesListingForC section out p out′ = c-listing.Reads.Post (κ, (κ′, tt)) (section, (out, tt)) p (section, (out′, tt))
 
+  abbrev GivesPlaceForC : (section : Slice) (place : ℕ) (out : Slice) → ℕ → (out′ : Slice) → Type 0
+  GivesPlaceForC section place out n out′ = c-place.Reads.Post (κ, (κ′, tt)) (section, (place, (out, tt))) n (section, (place, (out′, tt)))
+
   abbrev ConvertsForC : Target → (section out : Slice) → ℕ → (out′ : Slice) → Type 0
   ConvertsForC One section out p out′ = c-to-v1.Reads.Post (κ, (κ′, tt)) (section, (out, tt)) p (section, (out′, tt))
   ConvertsForC Two section out p out′ = c-to-v2.Reads.Post (κ, (κ′, tt)) (section, (out, tt)) p (section, (out′, tt))
@@ -345,6 +350,7 @@ module _ (κ κ′ : Lft) where
       × Taken c-home-zeros.Statement.statement c-home-zeros.Reads.Asked
       × Taken c-line.Statement.statement c-line.Reads.Asked
       × Taken c-listing.Statement.statement c-listing.Reads.Asked
+      × Taken c-place.Statement.statement c-place.Reads.Asked
       × Taken c-to-v1.Statement.statement c-to-v1.Reads.Asked
       × Taken c-to-v2.Statement.statement c-to-v2.Reads.Asked
       × Taken c-walk.Statement.statement c-walk.Reads.Asked
@@ -385,6 +391,7 @@ module _ (κ κ′ : Lft) where
     (λ M. c-home-zeros.Met.met, λ κs a. tt),
     (λ M. c-line.Met.met, λ κs a. tt),
     (λ M. c-listing.Met.met, λ κs a. tt),
+    (λ M. c-place.Met.met, λ κs a. tt),
     (λ M. c-to-v1.Met.met, λ κs a. tt),
     (λ M. c-to-v2.Met.met, λ κs a. tt),
     (λ M. c-walk.Met.met, λ κs a. tt),
@@ -437,6 +444,18 @@ module _ (κ κ′ : Lft) where
   pub writes-listing-for-c : (section out out′ : Slice) (p : ℕ) → WritesListingForC section out p out′
       → Puts packed (listingOf (now section)) (now out) p (now out′)
   writes-listing-for-c section out out′ p wrote = rw (wrote .0, wrote .1) (Left.puts packed _ _)
+
+  -- So is what stands at a place of an accepted section, as its address, the word, and 1 if it is data or else 0; from the number of its places on
+  -- 13 is given. So from 0 up to there come all of its places, in order. Of another section its own number is given.
+  pub gives-place : (section : Slice) (place : ℕ) (out out′ : Slice) (n : ℕ) → GivesPlaceForC section place out n out′
+      → (refusalOf (now section) ≡ 0
+      → (place < length (placesOf (now section)) → Puts (λ n len. n) (hereRow (hereOf (now section) place)) (now out) n (now out′))
+      × (length (placesOf (now section)) ≤ place → (n ≡ 13) × (now out′ ≡ now out)))
+      × ((refusalOf (now section) ≡ 0 → ⊥) → (n ≡ refusalOf (now section)) × (now out′ ≡ now out))
+  gives-place section place out out′ n gave = rw (gave .0, gave .1) (
+    λ ok. (Left.puts-place (now section) place (now out) ok, Left.no-more (now section) place (now out) ok),
+    λ bad. let given = Placed.given-none (now section) place (now out) bad in (sym (given .0), sym (given .1)),
+  )
 
   -- A section is converted, or refused with its own number, with 12 or with 10, and then no byte is changed.
   pub converts : (section : Slice) (target : Target) (out out′ : Slice) (r : Written) → Converts section target out r out′

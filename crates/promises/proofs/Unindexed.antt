@@ -2,7 +2,7 @@
 use mathlib.Core.Path.{_≡_, refl, sym, _∙_, subst}
 use mathlib.Core.Bool.{Bool, true, false, not}
 use mathlib.Core.Logic.{_⊎_, inl, inr}
-use Prim.Native.Nat.{ℕ, _+_, _*_, _^_, _<_}
+use Prim.Native.Nat.{ℕ, _^_, _<_}
 use Prim.Native.String.{String}
 use native.Mathlib.Omega.{arith}
 use borrow.Author.Tests.{eqb-true}
@@ -15,13 +15,14 @@ use Rattle.encode_home.specs.Home.{homeOf}
 use Rattle.home_form.specs.Changes.{isUnindexed}
 use Rattle.manual.specs.A5 as A
 use Rattle.manual.specs.A5.{tableRow}
-use Rattle.manual.specs.A8.{isAmong, pageOf, rowOf, sees}
+use Rattle.manual.specs.A8.{isAmong, rowOf, sees}
 use Rattle.manual.specs.Departures.{coprocessorTransfers}
 use Rattle.manual.specs.Reads.{isSet}
 use Rattle.manual.proofs.Fields.{all-six, pick-same, by-field, no-true, _also_}
+use Rattle.manual_follows.proofs.Coprocessor.{six}
 use Rattle.manual_drawn.specs.HomeReads.{saidAt, Homely, alike, unmarking, losesMark, homelyAs, homely, unmarked, SaidAs}
 use Rattle.manual_drawn.specs.HomeReads as Read
-use Rattle.manual_drawn.proofs.Told.{one-of, noneTo, own}
+use Rattle.manual_drawn.proofs.Told.{one-of, noneTo, own-row}
 use Rattle.manual_drawn.proofs.Rows.{no-transfer}
 use Rattle.manual_drawn.proofs.Homes.{home-reads}
 
@@ -38,9 +39,6 @@ none-other x other = unfold isTransfer in other
 ruleset none = (either, none-other, pick-same)
 
 module _ (w : ℕ) where
-  six : field w 20 6 ≡ ((((field w 25 1 * 2 + field w 24 1) * 2 + field w 23 1) * 2 + field w 22 1) * 2 + field w 21 1) * 2 + field w 20 1
-  six = omega (arith, splits w 20 5 1, splits w 21 4 1, splits w 22 3 1, splits w 23 2 1, splits w 24 1 1)
-
   -- with 25 set there is no transfer, and with P, U and W clear there is none
   none-above : field w 25 1 ≡ 1 → isTransfer (A.coprocessor w) ≡ false
   none-above t = unfold A.coprocessor in simp (none, all-six, t)
@@ -49,15 +47,15 @@ module _ (w : ℕ) where
   none-clear t p u b = unfold A.coprocessor in
       by-field w 22 1
       ((λ d. by-field w 20 1
-      ((λ l. let n : field w 20 6 ≡ 0 = omega (arith, six, t, p, u, b, d, l) in simp (none, n)) also
-      (λ l. let n : field w 20 6 ≡ 1 = omega (arith, six, t, p, u, b, d, l) in simp (none, n)) also tt)) also
+      ((λ l. let n : field w 20 6 ≡ 0 = omega (arith, six w, t, p, u, b, d, l) in simp (none, n)) also
+      (λ l. let n : field w 20 6 ≡ 1 = omega (arith, six w, t, p, u, b, d, l) in simp (none, n)) also tt)) also
       (λ d. by-field w 20 1
-      ((λ l. let n : field w 20 6 ≡ 4 = omega (arith, six, t, p, u, b, d, l) in simp (none, n)) also
-      (λ l. let n : field w 20 6 ≡ 5 = omega (arith, six, t, p, u, b, d, l) in simp (none, n)) also tt)) also tt)
+      ((λ l. let n : field w 20 6 ≡ 4 = omega (arith, six w, t, p, u, b, d, l) in simp (none, n)) also
+      (λ l. let n : field w 20 6 ≡ 5 = omega (arith, six w, t, p, u, b, d, l) in simp (none, n)) also tt)) also tt)
 
   module _ (is : isAmong (rowOf w) coprocessorTransfers ≡ true) where
     same-row : tableRow w ≡ rowOf w
-    same-row = unfold rowOf pageOf in own (tableRow w) (rowOf w) (sees w) (one-of (λ s. noneTo s (sees w)) (rowOf w) coprocessorTransfers tt is) refl
+    same-row = own-row w (one-of (λ s. noneTo s (sees w)) (rowOf w) coprocessorTransfers tt is)
 
     in-table : isAmong (tableRow w) coprocessorTransfers ≡ true
     in-table = subst (λ (s : String). isAmong s coprocessorTransfers ≡ true) (sym same-row) is
