@@ -25,6 +25,10 @@ extern "C" {
    here changes, a row or a function, and the minor one where something is added. */
 enum { BRASSDOZEN_VERSION = 30500 };
 
+/* The version of a row, for those who store rows: another one where a number of a row, or what it says, is another. It is the major version of
+   the library that brought the row. */
+enum { BRASSDOZEN_ROW_VERSION = 3 };
+
 /* The version of the library that is linked. */
 uint32_t brassdozen_version(void);
 

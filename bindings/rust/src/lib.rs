@@ -37,6 +37,9 @@ pub use section::{Place, Places, What, place, places};
 /// The version that these declarations are of, as `BRASSDOZEN_VERSION` of the header says it.
 pub const VERSION: u32 = 30_500;
 
+/// The version of a row, for those who store rows: the major version that brought it.
+pub const ROW_VERSION: u32 = 3;
+
 /// How many numbers a row has.
 pub const ROW: usize = names::row::OPERANDS + names::PARTS * names::PLACES;
 
