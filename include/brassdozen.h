@@ -232,6 +232,42 @@ uint64_t brassdozen_home_form(uint8_t *section, size_t bytes, uint32_t *changes,
 static inline uint32_t brassdozen_home_form_changes(uint64_t given) { return (uint32_t)(given & 0xffff); }
 static inline uint32_t brassdozen_home_form_unindexed(uint64_t given) { return (uint32_t)given >> 16; }
 
+/* A program in numbers, for the rule "a barrier before every commit": what each place does, by these flags. A state is clean or dirty. */
+enum {
+    BRASSDOZEN_CLEAN_CLEAN = 1, /* found clean, it may leave clean */
+    BRASSDOZEN_CLEAN_DIRTY = 2, /* found clean, it may leave dirty */
+    BRASSDOZEN_DIRTY_CLEAN = 4,
+    BRASSDOZEN_DIRTY_DIRTY = 8,
+    BRASSDOZEN_GOES_ON = 16,      /* it goes on to the next place */
+    BRASSDOZEN_AIMS = 32,         /* it goes to its target, or calls it */
+    BRASSDOZEN_AIMS_FURTHER = 64, /* it goes to the targets that pairs give it, or calls them */
+    BRASSDOZEN_CALLS = 128,       /* it calls its targets; what is called comes back to the next place */
+    BRASSDOZEN_RETURNS = 256,
+    BRASSDOZEN_COMMITS = 512,
+    BRASSDOZEN_OPENS = 1024 /* behind it nothing is known */
+};
+
+/* The verdicts. */
+enum { BRASSDOZEN_HOLDS = 0, BRASSDOZEN_VIOLATED = 1, BRASSDOZEN_UNDECIDED = 2 };
+
+/* Judges the rule for a program of `places` places, at most 4,096: `flags` has what each does, `targets` a target for each, `further` pairs of
+   places, from and to, of any number, and `entries` the places where a run may start, dirty and with an empty stack. A run is at a place, in a state,
+   with a stack of places to come back to; at each place it takes on a state that the place may leave, and goes on by one of its flags: a call puts the
+   next place on the stack, and a return goes where the stack says, or ends the run. The rule is violated if some run is at a commit and dirty;
+   undecided if none is, but some run reaches a place that is open; else it holds. That is exact: no run is missed, and there is no alarm without one.
+
+   The low 16 bits of the result are, of a violation, how many places the way has that is written to the start of `way`: from an entry to the commit,
+   each place a step from the one before, a call that came back being one step, and no way is shorter; and else, if the rule is undecided, the first
+   open place that is reached. The bits above say the verdict. More than 4,096 places are refused with 8; else an entry, a target that counts or a place
+   of a pair that is outside with 13; and else too little room with 10: `known` takes a number for each eight places, `dist`, `prior` and `way` two for
+   each and two more. A refusal changes nothing, and nothing is changed behind that room, or behind the way. */
+uint64_t brassdozen_judge(const uint32_t *flags, size_t places, const uint32_t *targets, size_t targets_length, const uint32_t *further,
+                          size_t further_length, const uint32_t *entries, size_t entries_length, uint32_t *known, size_t known_length, uint16_t *dist,
+                          size_t dist_length, uint16_t *prior, size_t prior_length, uint32_t *way, size_t way_length);
+
+static inline uint32_t brassdozen_judge_number(uint64_t given) { return (uint32_t)(given & 0xffff); }
+static inline uint32_t brassdozen_judge_verdict(uint64_t given) { return (uint32_t)given >> 16; }
+
 #ifdef __cplusplus
 }
 #endif

@@ -607,6 +607,39 @@ static void check_home_form(void)
     CHECK(memcmp(section, before, sizeof section) == 0 && untouched(changes, changes + NUMBERS + 4));
 }
 
+/* A routine that stores and returns, called before a barrier and a commit, and again between them. */
+static void check_judge(void) {
+    enum { KEEPS = BRASSDOZEN_CLEAN_CLEAN | BRASSDOZEN_DIRTY_DIRTY, CALLS = BRASSDOZEN_AIMS | BRASSDOZEN_CALLS, PLACES = 6, NODES = 2 * PLACES + 2 };
+    uint32_t flags[PLACES] = {
+        KEEPS | CALLS,
+        BRASSDOZEN_CLEAN_CLEAN | BRASSDOZEN_DIRTY_CLEAN | BRASSDOZEN_GOES_ON,
+        KEEPS | BRASSDOZEN_GOES_ON,
+        KEEPS | BRASSDOZEN_COMMITS | BRASSDOZEN_RETURNS,
+        BRASSDOZEN_CLEAN_DIRTY | BRASSDOZEN_DIRTY_DIRTY | BRASSDOZEN_GOES_ON,
+        KEEPS | BRASSDOZEN_RETURNS,
+    };
+    uint32_t targets[PLACES] = {4, 4, 4, 4, 4, 4}, entry = 0, known = 0, way[NODES + 1];
+    uint16_t dist[NODES], prior[NODES];
+    for (int n = 0; n <= NODES; n++) way[n] = 77;
+    uint64_t given = brassdozen_judge(flags, PLACES, targets, PLACES, targets, 0, &entry, 1, &known, 1, dist, NODES, prior, NODES, way, NODES);
+    CHECK(given == BRASSDOZEN_HOLDS && way[0] == 77);
+    flags[2] = KEEPS | CALLS;
+    CHECK(brassdozen_refusal(brassdozen_judge(flags, PLACES, targets, PLACES, targets, 0, &entry, 1, &known, 1, dist, NODES, prior, NODES, way, NODES - 1)) ==
+          BRASSDOZEN_NO_ROOM);
+    CHECK(way[0] == 77);
+    given = brassdozen_judge(flags, PLACES, targets, PLACES, targets, 0, &entry, 1, &known, 1, dist, NODES, prior, NODES, way, NODES);
+    CHECK(brassdozen_refusal(given) == 0 && brassdozen_judge_verdict(given) == BRASSDOZEN_VIOLATED && brassdozen_judge_number(given) == 4);
+    for (uint32_t n = 0; n < 4; n++) CHECK(way[n] == n);
+    CHECK(way[4] == 77);
+    flags[5] |= BRASSDOZEN_OPENS;
+    flags[3] = KEEPS | BRASSDOZEN_RETURNS;
+    given = brassdozen_judge(flags, PLACES, targets, PLACES, targets, 0, &entry, 1, &known, 1, dist, NODES, prior, NODES, way, NODES);
+    CHECK(brassdozen_judge_verdict(given) == BRASSDOZEN_UNDECIDED && brassdozen_judge_number(given) == 5);
+    targets[0] = PLACES;
+    given = brassdozen_judge(flags, PLACES, targets, PLACES, targets, 0, &entry, 1, &known, 1, dist, NODES, prior, NODES, way, NODES);
+    CHECK(brassdozen_refusal(given) == BRASSDOZEN_NO_PLACE && brassdozen_result(given) == 0);
+}
+
 int main(void)
 {
     static uint8_t words[4 * 4096];
@@ -640,6 +673,7 @@ int main(void)
     check_patched();
     check_index();
     check_home_form();
+    check_judge();
     CHECK(brassdozen_version() == BRASSDOZEN_VERSION);
     uint64_t nothing = 0;
     CHECK(brassdozen_refusal(brassdozen_encode(&nothing, 0)) == BRASSDOZEN_NO_WORD);

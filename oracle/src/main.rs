@@ -20,6 +20,7 @@ mod home;
 mod home_form;
 mod home_forms;
 mod indexes;
+mod judgements;
 mod line;
 mod load;
 mod made;
@@ -33,6 +34,7 @@ mod proved;
 mod random;
 mod reports;
 mod row;
+mod rule;
 mod section;
 mod sweep;
 mod tallies;
@@ -80,6 +82,7 @@ modes of the oracle (numbers are hexadecimal, but COUNT, SEED and ENTRY; no SET 
   patches COUNT SEED   has the proved code look up runs of patched sections, and write these
   indexes COUNT SEED   has the proved code index the calls of as many sections, and replace words
   homes COUNT SEED FILE ..  has the proved code put the files and as many others in home form
+  judgements COUNT SEED  has the proved code judge the rule for made-up programs
   SET                  FIRST COUNT, 'branches', or 'coprocessors'";
 
 fn main() -> ExitCode {
@@ -162,6 +165,12 @@ fn run(arguments: &[&str]) -> Result<ExitCode, String> {
                 .collect::<Result<_, _>>()?;
             let (count, seed) = (decimal(count)?, decimal(seed)?);
             let (tally, failures) = home_forms::home_forms(proved()?, &files, count, seed);
+            println!("{tally}\n{failures} failures");
+            return Ok(success_if(failures == 0));
+        }
+        ["judgements", count, seed] => {
+            let (count, seed) = (decimal(count)?, decimal(seed)?);
+            let (tally, failures) = judgements::judgements(proved()?, count, seed);
             println!("{tally}\n{failures} failures");
             return Ok(success_if(failures == 0));
         }

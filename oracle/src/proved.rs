@@ -48,7 +48,22 @@ pub struct Proved {
     /// Puts a section in its home form and writes its changes to the start of `changes`. Gives what
     /// `Coded::of` reads, with their number in the word's lower half and of the unindexed in its upper.
     pub home_form: fn(section: &mut [u8], changes: &mut [u32]) -> u64,
+    /// Judges the rule for a program in numbers, with a table, distances, places before and a way to
+    /// write. Gives what `Coded::of` reads, with a number in the word's lower half and the verdict in
+    /// its upper.
+    pub judge: Judge,
 }
+
+pub type Judge = fn(
+    flags: &[u32],
+    targets: &[u32],
+    further: &[u32],
+    entries: &[u32],
+    known: &mut [u32],
+    dist: &mut [u16],
+    prior: &mut [u16],
+    way: &mut [u32],
+) -> u64;
 
 /// What encoding gives: a word beside no refusal, or a refusal's number beside word 0.
 #[derive(Debug, Clone, Copy, PartialEq, Eq)]
@@ -107,6 +122,7 @@ pub const PROVED: Option<Proved> = Some(Proved {
     replace: linked::replace,
     callers: linked::callers,
     home_form: linked::home_form,
+    judge: linked::judge,
 });
 
 #[cfg(not(proved))]
@@ -186,6 +202,24 @@ mod linked {
             bytes: usize,
             changes: *mut u32,
             numbers: usize,
+        ) -> u64;
+        fn brassdozen_judge(
+            flags: *const u32,
+            places: usize,
+            targets: *const u32,
+            aimed: usize,
+            further: *const u32,
+            paired: usize,
+            entries: *const u32,
+            entered: usize,
+            known: *mut u32,
+            known_room: usize,
+            dist: *mut u16,
+            dist_room: usize,
+            prior: *mut u16,
+            prior_room: usize,
+            way: *mut u32,
+            way_room: usize,
         ) -> u64;
     }
 
@@ -283,5 +317,37 @@ mod linked {
         let (bytes, size) = (section.as_mut_ptr(), section.len());
         let (numbers, length) = (changes.as_mut_ptr(), changes.len());
         unsafe { brassdozen_home_form(bytes, size, numbers, length) }
+    }
+
+    pub fn judge(
+        flags: &[u32],
+        targets: &[u32],
+        further: &[u32],
+        entries: &[u32],
+        known: &mut [u32],
+        dist: &mut [u16],
+        prior: &mut [u16],
+        way: &mut [u32],
+    ) -> u64 {
+        unsafe {
+            brassdozen_judge(
+                flags.as_ptr(),
+                flags.len(),
+                targets.as_ptr(),
+                targets.len(),
+                further.as_ptr(),
+                further.len(),
+                entries.as_ptr(),
+                entries.len(),
+                known.as_mut_ptr(),
+                known.len(),
+                dist.as_mut_ptr(),
+                dist.len(),
+                prior.as_mut_ptr(),
+                prior.len(),
+                way.as_mut_ptr(),
+                way.len(),
+            )
+        }
     }
 }

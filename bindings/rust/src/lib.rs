@@ -316,6 +316,106 @@ pub fn home_form(section: &mut [u8], changes: &mut [u32]) -> Result<Changes, Ref
     })
 }
 
+/// The flags of a place, for [`judge`].
+pub mod rule {
+    /// Found clean, it may leave clean.
+    pub const CLEAN_CLEAN: u32 = 1;
+
+    /// Found clean, it may leave dirty.
+    pub const CLEAN_DIRTY: u32 = 2;
+
+    /// Found dirty, it may leave clean.
+    pub const DIRTY_CLEAN: u32 = 4;
+
+    /// Found dirty, it may leave dirty.
+    pub const DIRTY_DIRTY: u32 = 8;
+
+    /// It goes on to the next place.
+    pub const GOES_ON: u32 = 16;
+
+    /// It goes to its target, or calls it.
+    pub const AIMS: u32 = 32;
+
+    /// It goes to the targets that pairs give it, or calls them.
+    pub const AIMS_FURTHER: u32 = 64;
+
+    /// It calls its targets; what is called comes back to the next place.
+    pub const CALLS: u32 = 128;
+
+    /// It returns.
+    pub const RETURNS: u32 = 256;
+
+    /// It commits.
+    pub const COMMITS: u32 = 512;
+
+    /// Behind it nothing is known.
+    pub const OPENS: u32 = 1024;
+}
+
+/// What is said of the rule "a barrier before every commit".
+#[derive(Debug, Clone, Copy, PartialEq, Eq)]
+pub enum Verdict {
+    /// No run breaks it, and all is known that runs reach.
+    Holds,
+    /// Some run breaks it: so many places has the way that is written.
+    Violated(usize),
+    /// None does that is known: this is the first open place that is reached.
+    Undecided(usize),
+}
+
+/// What [`judge`] is lent: the program, and room to work in.
+pub struct Judgement<'a> {
+    /// What each place does, by the flags of [`rule`].
+    pub flags: &'a [u32],
+    /// A target for each place.
+    pub targets: &'a [u32],
+    /// Pairs of places, from and to.
+    pub further: &'a [u32],
+    /// Where runs start.
+    pub entries: &'a [u32],
+    /// A number for each eight places.
+    pub known: &'a mut [u32],
+    /// Two numbers for each place, and two more.
+    pub dist: &'a mut [u16],
+    /// The same.
+    pub prior: &'a mut [u16],
+    /// The same; a way that breaks the rule is written to its start.
+    pub way: &'a mut [u32],
+}
+
+/// Judges the rule "a barrier before every commit" for a program in numbers. A refusal changes
+/// nothing.
+pub fn judge(lent: &mut Judgement<'_>) -> Result<Verdict, Refusal> {
+    let number = unsafe {
+        foreign::brassdozen_judge(
+            lent.flags.as_ptr(),
+            lent.flags.len(),
+            lent.targets.as_ptr(),
+            lent.targets.len(),
+            lent.further.as_ptr(),
+            lent.further.len(),
+            lent.entries.as_ptr(),
+            lent.entries.len(),
+            lent.known.as_mut_ptr(),
+            lent.known.len(),
+            lent.dist.as_mut_ptr(),
+            lent.dist.len(),
+            lent.prior.as_mut_ptr(),
+            lent.prior.len(),
+            lent.way.as_mut_ptr(),
+            lent.way.len(),
+        )
+    };
+    given(number).map(|both| {
+        let number = (both & 0xffff) as usize;
+        match both >> 16 {
+            0 => Verdict::Holds,
+            1 => Verdict::Violated(number),
+            _ => Verdict::Undecided(number),
+        }
+    })
+}
+
 /// A count of calls as it crosses the call: one that 32 bits do not hold is refused as any other that
 /// is too large.
 fn number_of(count: usize) -> u32 {
@@ -437,6 +537,24 @@ mod foreign {
             out: *mut u32,
             length: usize,
         ) -> u8;
+        pub fn brassdozen_judge(
+            flags: *const u32,
+            places: usize,
+            targets: *const u32,
+            targets_length: usize,
+            further: *const u32,
+            further_length: usize,
+            entries: *const u32,
+            entries_length: usize,
+            known: *mut u32,
+            known_length: usize,
+            dist: *mut u16,
+            dist_length: usize,
+            prior: *mut u16,
+            prior_length: usize,
+            way: *mut u32,
+            way_length: usize,
+        ) -> u64;
         pub fn brassdozen_home_form(
             section: *mut u8,
             bytes: usize,

@@ -7,6 +7,8 @@ use Rattle.word.specs.Only.{Only}
 use Rattle.word_packed.specs.Packed.{packed}
 use Rattle.callers.specs.declared.Indexed.{Indexed}
 use Rattle.home_form.specs.declared.Changed.{Changed}
+use Rattle.rule_verdict.specs.declared.Judged.{Judged}
+use Rattle.rule_verdict.proofs.Unique.{rules-only}
 use Rattle.walk.specs.declared.Walked.{Walked}
 use Rattle.walk.proofs.Unique.{walks-only}
 use Rattle.brassdozen.proofs.brassdozen_version.Reads as version
@@ -27,6 +29,7 @@ use Rattle.brassdozen.proofs.brassdozen_index.Reads as index
 use Rattle.brassdozen.proofs.brassdozen_replace.Reads as replace
 use Rattle.brassdozen.proofs.brassdozen_callers.Reads as callers
 use Rattle.brassdozen.proofs.brassdozen_home_form.Reads as home-form
+use Rattle.brassdozen.proofs.brassdozen_judge.Reads as judge
 use Rattle.brassdozen.proofs.brassdozen_to_v1.Reads as to-v1
 use Rattle.brassdozen.proofs.brassdozen_to_v2.Reads as to-v2
 
@@ -113,3 +116,8 @@ home-form-only κs a r r′ s s′ p q =
       p .puts .bytes ∙ sym (q .puts .bytes),
       p .puts .left ∙ sym (q .puts .left),
     )
+
+-- of the shortest ways, and of what is left in the room to work in, the contract takes any
+pub judge-only : Only judge.Post
+judge-only κs a r r′ s s′ p q =
+    p .given ∙ ap (λ (j : Judged). packed (j .refusal) (2 ^ 16 * j .verdict + j .number)) (rules-only (p .rules) (q .rules)) ∙ sym (q .given)

@@ -29,6 +29,8 @@ use Rattle.walk.specs.declared.Walked.{Walked}
 use Rattle.patch.specs.declared.Found.{Found}
 use Rattle.patch.specs.declared.Found.the-variants.{Patch, Section, Refused}
 use Rattle.patched.specs.Patched.{patchedGiven}
+use Rattle.rule_verdict.specs.Verdicts.{Rules}
+use Rattle.rule_verdict.specs.declared.Judged.{Judged}
 use Rattle.insn_row.specs.Row.{ROW, rowOf, numbersOf, holds}
 
 -- 3.5.0
@@ -126,3 +128,9 @@ pub record PutsHomeForC (s list : List ℕ) (r : ℕ) (s′ list′ : List ℕ) 
   pub changed : Changed
   pub puts : PutsHome s list changed s′ list′
   pub given : r ≡ packed (changed .refusal) (2 ^ 16 * changed .unindexed + changed .changes)
+
+-- what judging the rule gives and leaves: the number of places of a way, or the first open place; above 16 bits the verdict, above 32 a refusal's number
+pub record JudgesForC (flags targets further entries known dist prior way : List ℕ) (r : ℕ) (known′ dist′ prior′ way′ : List ℕ) : Type 0 where
+  pub judged : Judged
+  pub rules : Rules flags targets further entries known dist prior way known′ dist′ prior′ way′ judged
+  pub given : r ≡ packed (judged .refusal) (2 ^ 16 * judged .verdict + judged .number)

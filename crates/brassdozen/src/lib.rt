@@ -18,6 +18,7 @@ use listing_text::listing;
 use patch::Found;
 use patch::find;
 use patched::patched;
+use rule_verdict::judge;
 use section::Here;
 use section::open;
 use section::read;
@@ -40,7 +41,7 @@ ghost use Rattle.tally.specs.Tally.{ownOf, lentRefusal, lentLast};
 ghost use Rattle.patch.specs.Image.{_from_};
 ghost use Rattle.patch.specs.Run.{foundOf};
 ghost use Rattle.patched.specs.Patched.{patchedLeft};
-ghost use Rattle.brassdozen.specs.Given.{WalksForC, foundForC, patchedFor, BuildsForC, ReplacesForC, FindsForC, PutsHomeForC};
+ghost use Rattle.brassdozen.specs.Given.{WalksForC, foundForC, patchedFor, BuildsForC, ReplacesForC, FindsForC, PutsHomeForC, JudgesForC};
 ghost use Rattle.brassdozen.specs.Given.{hereRow, hereRefusal, placeRefusal, placeLast};
 ghost use Rattle.brassdozen.specs.Given.{VERSION, rowRefusal, rowLast, encodedOf, homedOf, writtenOf, convertedTo};
 
@@ -310,5 +311,27 @@ pub extern "C" fn brassdozen_home_form(section: &mut [u8], changes: &mut [u32]) 
     pack(
         put.refusal,
         0x1_0000 * put.unindexed as u32 + put.changes as u32,
+    )
+}
+
+/// Judges the rule of a barrier before every commit for a program in numbers, as `rule_verdict` has it. Gives the number of places of the way that
+/// breaks it, which is written, or the first open place; above that the verdict, and a refusal's number above both.
+#[no_mangle]
+pub extern "C" fn brassdozen_judge(
+    flags: &[u32],
+    targets: &[u32],
+    further: &[u32],
+    entries: &[u32],
+    known: &mut [u32],
+    dist: &mut [u16],
+    prior: &mut [u16],
+    way: &mut [u32],
+) -> u64
+    ensures { λ r. ⌜ JudgesForC (now (flags .entry)) (now (targets .entry)) (now (further .entry)) (now (entries .entry)) (now (known .entry)) (now (dist .entry)) (now (prior .entry)) (now (way .entry)) r (now (known .exit)) (now (dist .exit)) (now (prior .exit)) (now (way .exit)) ⌝ }
+{
+    let judged = judge(flags, targets, further, entries, known, dist, prior, way);
+    pack(
+        judged.refusal,
+        0x1_0000 * judged.verdict as u32 + judged.number as u32,
     )
 }

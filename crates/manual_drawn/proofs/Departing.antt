@@ -187,11 +187,11 @@ module _ (c : Filler) where
         by-test (literalPldw w) (λ l. simp (gathering, l) tt) (λ l. simp l tt)
 
 -- a page by the "SEE" that leads to it, or by none
-abbrev Leads : (String → Type 0) → String → List See → Type 0
+abbrev pub Leads : (String → Type 0) → String → List See → Type 0
 Leads P row [] = Unit
 Leads P row (x ∷ xs) = (both (isAmong row (x .rows)) (x .holds) ≡ true → P (x .to)) × Leads P row xs
 
-by-see : (P : String → Type 0) (row : String) (xs : List See) → P row → Leads P row xs → P (seeOf row xs)
+pub by-see : (P : String → Type 0) (row : String) (xs : List See) → P row → Leads P row xs → P (seeOf row xs)
 by-see P row [] here there = here
 by-see P row (x ∷ xs) here there =
     by-test (both (isAmong row (x .rows)) (x .holds)) (λ e. rw e (there .0 e)) (λ e. rw e (by-see P row xs here (there .1)))

@@ -6,9 +6,13 @@ use Rattle.manual.specs.A8.{rowOf}
 use Rattle.manual_tables.specs.Titles.{titleAt}
 use Rattle.manual_rows.specs.Told.{title-is}
 use Rattle.manual_rows.proofs.brassdozen_manual_row.Reads as row
+use Rattle.manual_rows.proofs.leads.table_row.Reads as table-row
 
 pub row-only : Only row.Post
 row-only κs a r r′ s s′ p q = p .number ∙ sym (q .number)
+
+pub table-row-only : Only table-row.Post
+table-row-only κs a r r′ s s′ p q = p .number ∙ sym (q .number)
 
 -- each word's row is in the list of titles
 pub each-row-known : (κs : _) (a : _) (r : _) (s : _) → row.Post κs a r s → titleAt r ≡ rowOf (a .0)

@@ -1,5 +1,5 @@
 //! The number of a word's row in the manual: the executable twin of the tables in `manual`.
-mod leads;
+pub mod leads;
 mod pages;
 
 use crate::leads::table_row;

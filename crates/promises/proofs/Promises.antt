@@ -70,7 +70,11 @@ use Rattle.manual_drawn.specs.HomeReads.{SaidAs, homely, saidAt, unmarked}
 use Rattle.manual.specs.Stands.{Stands, inRange}
 use Rattle.manual_drawn.specs.Exceptions.{excepted}
 use Rattle.insn_row.specs.Row.{rowOf}
-use Rattle.brassdozen.specs.Given.{Answers, hereRow, WalksForC, foundForC, BuildsForC, ReplacesForC, FindsForC, PutsHomeForC}
+use Rattle.rule_runs.specs.Runs.{Program, Verdict.violated, Verdict.undecided, Verdict.holds, Judges}
+use Rattle.rule_verdict.specs.Verdicts.{HOLDS, VIOLATED, UNDECIDED}
+use Rattle.rule_verdict.specs.Verdicts as Rule
+use Rattle.rule_verdict.specs.declared.Judged.{Judged}
+use Rattle.brassdozen.specs.Given.{Answers, hereRow, WalksForC, foundForC, BuildsForC, ReplacesForC, FindsForC, PutsHomeForC, JudgesForC}
 use Rattle.a32.proofs.decode as decode
 use Rattle.a32.proofs.decode_bytes as decode-bytes
 use Rattle.encode.proofs.encode as encode
@@ -111,6 +115,7 @@ use Rattle.brassdozen.proofs.brassdozen_index as c-index
 use Rattle.brassdozen.proofs.brassdozen_replace as c-replace
 use Rattle.brassdozen.proofs.brassdozen_callers as c-callers
 use Rattle.brassdozen.proofs.brassdozen_home_form as c-home-form
+use Rattle.brassdozen.proofs.brassdozen_judge as c-judge
 use Rattle.a32_elsewhere.proofs.Elsewhere as Elsewhere
 use Rattle.a32_every.proofs.Refusals as Refusals
 use Rattle.encode_home.proofs.Same as Same
@@ -144,6 +149,7 @@ use Rattle.listing_text.proofs.Example as Listed
 use Rattle.brassdozen.proofs.Back as Back
 use Rattle.brassdozen.proofs.Exactly as Exactly
 use Rattle.brassdozen.proofs.Placed as Placed
+use Rattle.rule_verdict.proofs.Unique as Judging
 use Rattle.promises.proofs.Left as Left
 use Rattle.promises.proofs.Unindexed as Unindexed
 
@@ -317,6 +323,12 @@ module _ (κ κ′ : Lft) where
   abbrev PutsInHomeFormForC : (section list : Slice) → ℕ → (section′ list′ : Slice) → Type 0
   PutsInHomeFormForC section list p section′ list′ = c-home-form.Reads.Post (κ, (κ′, tt)) (section, (list, tt)) p (section′, (list′, tt))
 
+  abbrev JudgesRuleForC : (flags targets further entries known dist prior way : Slice) → ℕ → (known′ dist′ prior′ way′ : Slice) → Type 0
+  JudgesRuleForC flags targets further entries known dist prior way p known′ dist′ prior′ way′ =
+      c-judge.Reads.Post (κ, (κ, (κ, (κ, (κ′, (κ′, (κ′, (κ′, tt))))))))
+      (flags, (targets, (further, (entries, (known, (dist, (prior, (way, tt)))))))) p
+      (flags, (targets, (further, (entries, (known′, (dist′, (prior′, (way′, tt))))))))
+
   -- 1. Taken without fault.
 
   -- Every function takes every input.
@@ -361,6 +373,7 @@ module _ (κ κ′ : Lft) where
       × Taken c-replace.Statement.statement c-replace.Reads.Asked
       × Taken c-callers.Statement.statement c-callers.Reads.Asked
       × Taken c-home-form.Statement.statement c-home-form.Reads.Asked
+      × Taken c-judge.Statement.statement c-judge.Reads.Asked
   taken = (
     (λ M. decode.Met.met, λ κs a. tt),
     (λ M. decode-bytes.Met.met, λ κs a. tt),
@@ -402,6 +415,7 @@ module _ (κ κ′ : Lft) where
     (λ M. c-replace.Met.met, λ κs a. tt),
     (λ M. c-callers.Met.met, λ κs a. tt),
     (λ M. c-home-form.Met.met, λ κs a. tt),
+    (λ M. c-judge.Met.met, λ κs a. tt),
   )
 
   -- Fewer than four bytes are refused with 1; of more, the first four are decoded, low byte first.
@@ -867,3 +881,16 @@ module _ (κ κ′ : Lft) where
   pub same-work-at-home : (w addr : ℕ) (d : Decoded) → Word w → Decodes w addr d → Accepts d → isUnindexed w ≡ false
       → (saidAt w addr ≡ saidAt (homeOf Manual w) addr) ⊎ (unmarked (saidAt w addr) ≡ saidAt (homeOf Manual w) addr)
   same-work-at-home w addr d bound is ok = Unindexed.said-alike w addr bound (rw (← is) ok)
+
+  -- The rule of a barrier before every commit is judged for a program in numbers: refused, or violated with a shortest way from an entry to a commit,
+  -- undecided with the first open place that is reached, or it holds. And the verdict is exact for runs with a stack: no run is missed, and there is
+  -- no alarm without one.
+  pub judges-rule : (flags targets further entries known dist prior way known′ dist′ prior′ way′ : Slice) (p : ℕ)
+      → JudgesRuleForC flags targets further entries known dist prior way p known′ dist′ prior′ way′
+      → JudgesForC (now flags) (now targets) (now further) (now entries) (now known) (now dist) (now prior) (now way) p
+      (now known′) (now dist′) (now prior′) (now way′)
+  judges-rule flags targets further entries known dist prior way known′ dist′ prior′ way′ p is = is
+
+  pub judges-exactly : {P : Program} {way last : List ℕ} (r : Judged) → Rule.Answers P way last r
+      → ((r .verdict ≡ VIOLATED) × Judges P violated) ⊎ (((r .verdict ≡ UNDECIDED) × Judges P undecided) ⊎ ((r .verdict ≡ HOLDS) × Judges P holds))
+  judges-exactly r a = Judging.judges r a
