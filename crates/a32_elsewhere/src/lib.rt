@@ -1,2 +1,1 @@
 //! What an address does to an answer.
-#![tactic(auto)]

@@ -1,7 +1,7 @@
 -- What `least_of` and `least_field` say: no smaller rotation field, with any byte, gives the value. Assumes nothing.
 use Rattle.std.specs.Prelude.{◌≡◌, Bool, true, false, not, ◌↔◌, ℕ, zero, suc, ◌+◌, ◌-◌, ◌*◌, ◌/◌, ◌%◌, ◌^◌, ◌<◌, ◌≤◌, T, eqb, ltb}
 use Rattle.std.proofs.Math.Path.{refl, subst}
-use Rattle.std.proofs.Common.{sym, ◌∙◌, ap, add_comm, zero_add, not_suc_le_zero, add_one, shr_lt, below_more}
+use Rattle.std.proofs.Common.{sym, ◌∙◌, ap, add_comm, zero-add, not-suc-le-zero, add-one, shr_lt, below_more}
 use native.Mathlib.Omega.{arith}
 use Rattle.std.proofs.Math.Pow as P
 use borrow.Author.Tests.{eq-eqb, ne_eqb, ltb-true, ltb-false, not-true}
@@ -59,9 +59,9 @@ refuted false h = refl
 
 module _ (v : ℕ) (fits : v < 2 ^ 32) where
   none : (n : ℕ) → n ≤ 16 → none_below n v ≡ true → None n v
-  none zero most e r h = absurd (not_suc_le_zero h)
+  none zero most e r h = absurd (not-suc-le-zero h)
   none (suc n) most e r h =
-      below_more (λ r. (b : ℕ) → b < 256 → value_of r b ≡ v → ⊥) n (none n (omega arith) both_pass.1) last r (rw add_one h)
+      below_more (λ r. (b : ℕ) → b < 256 → value_of r b ≡ v → ⊥) n (none n (omega arith) both_pass.1) last r (rw add-one h)
     where
       both_pass : (not (ltb (turned_left v (2 * n)) 256) ≡ true) × (none_below n v ≡ true)
       both_pass = parts (not (ltb (turned_left v (2 * n)) 256)) (none_below n v) e
@@ -120,7 +120,7 @@ differ false e f = subst T (sym e) tt
 
 module _ (v : ℕ) where
   stops : (n r : ℕ) → none_below r v ≡ true → none_below (n + r) v ≡ false → Stops n r v
-  stops zero r clear some = absurd (differ (none_below r v) clear (subst (λ (m : ℕ). none_below m v ≡ false) (zero_add r) some))
+  stops zero r clear some = absurd (differ (none_below r v) clear (subst (λ (m : ℕ). none_below m v ≡ false) (zero-add r) some))
   stops (suc n) r clear some =
       by_test (ltb (turned_left v (2 * r)) 256)
       (λ e. (r, omega arith, ltb-true (turned_left v (2 * r)) 256 e, clear, simp e))

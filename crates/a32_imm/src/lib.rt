@@ -1,6 +1,4 @@
 //! The rotated immediates, mod.rs's `so_imm` and `so_imm_ops`.
-#![tactic(auto)]
-
 mod table;
 
 ghost use Rattle.std.specs.Prelude.{◌≡◌, ◌<◌};

@@ -1,6 +1,4 @@
 //! The words of the groups between data processing and block transfers, and of the coprocessor instructions, from their answers.
-#![tactic(auto)]
-
 pub mod coproc;
 pub mod extra;
 pub mod ldst;

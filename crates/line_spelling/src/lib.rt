@@ -1,2 +1,1 @@
 //! How an answer reads: the tables of names, and the text of an operand, an instruction and a line.
-#![tactic(auto)]

@@ -1,6 +1,4 @@
 //! Lists the section on standard input.
-#![tactic(auto)]
-
 use libc::STDIN_FILENO;
 use listing_stream::list;
 

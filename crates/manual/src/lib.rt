@@ -1,2 +1,1 @@
 //! DDI 0406C, chapter A5.
-#![tactic(auto)]

@@ -1,6 +1,6 @@
 -- A number tells its title: no title stands twice in the list. Assumes nothing.
 use Rattle.std.specs.Prelude.{◌≡◌, refl, Bool, true, false, List, [], ◌∷◌, ℕ, zero, suc, ◌<◌, T, eqb, length}
-use Rattle.std.proofs.Common.{sym, ap, ◌∙◌, subst, le_of_suc_le_suc, not_suc_le_zero, eqb→eq}
+use Rattle.std.proofs.Common.{sym, ap, ◌∙◌, subst, le_of_suc-le-suc, not-suc-le-zero, eqb→eq}
 use Prim.Native.String.{String}
 use lib.Text.{eqt, eqt→eq}
 use Rattle.word.specs.Choice.{pick}
@@ -12,10 +12,10 @@ module _ (s t : String) (ts : List String) where
   next : (b : Bool) → eqt s t ≡ b → (place_in s ts < length ts → title_in ts (place_in s ts) ≡ s) → pick b 0 (suc (place_in s ts)) < suc (length ts)
       → title_in (t ∷ ts) (pick b 0 (suc (place_in s ts))) ≡ s
   next true e rest h = sym (eqt→eq s t (subst T (sym e) tt))
-  next false e rest h = rest (le_of_suc_le_suc h)
+  next false e rest h = rest (le_of_suc-le-suc h)
 
 found : (s : String) (ts : List String) → place_in s ts < length ts → title_in ts (place_in s ts) ≡ s
-found s [] h = absurd (not_suc_le_zero h)
+found s [] h = absurd (not-suc-le-zero h)
 found s (t ∷ ts) h = next s t ts (eqt s t) refl (found s ts) h
 
 -- a row is the title at its number

@@ -1,6 +1,4 @@
 //! The number of a word's row in the manual: the executable twin of the tables in `manual`.
-#![tactic(auto)]
-
 pub mod leads;
 mod pages;
 

@@ -1,2 +1,1 @@
 //! What is promised, of the contracts that stand below.
-#![tactic(auto)]

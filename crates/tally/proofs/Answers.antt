@@ -1,5 +1,5 @@
 -- What adding a section answers and leaves, by the checks in their order. Assumes nothing.
-use Rattle.std.proofs.Common.{◌≡◌, ℕ, ◌<◌, ◌≤◌, eqb, ltb, List, length, get_or, arith, ltb_false, le_ltb, lt_ltb, eq_eqb, ne_eqb}
+use Rattle.std.proofs.Common.{◌≡◌, ℕ, ◌<◌, ◌≤◌, eqb, ltb, List, length, get_or, arith, ltb-false, le-ltb, lt-ltb, eq-eqb, ne_eqb}
 use borrow.Author.Tests.{eqb-false}
 use Rattle.word.specs.Choice.{fails, by_test}
 use Rattle.word.specs.Refusal.{NO_ROOM, TOO_MANY_SECTIONS}
@@ -12,20 +12,20 @@ module _ (own : ℕ) (counts : List ℕ) where
 
   module _ (ok : own ≡ 0) where
     pub too_short : length counts < COUNTS → NO_ROOM ≡ lent_refusal own counts
-    too_short short = unfold lent_refusal in simp (eq_eqb own 0 ok, lt_ltb (length counts) COUNTS short)
+    too_short short = unfold lent_refusal in simp (eq-eqb own 0 ok, lt-ltb (length counts) COUNTS short)
 
     module _ (long : COUNTS ≤ length counts) where
       pub too_many : MOST ≤ get_or counts 0 0 → TOO_MANY_SECTIONS ≡ lent_refusal own counts
       too_many many = unfold lent_refusal in
-          simp (eq_eqb own 0 ok, le_ltb (length counts) COUNTS long, le_ltb (get_or counts 0 0) MOST many)
+          simp (eq-eqb own 0 ok, le-ltb (length counts) COUNTS long, le-ltb (get_or counts 0 0) MOST many)
 
       pub goes_in : get_or counts 0 0 < MOST → 0 ≡ lent_refusal own counts
       goes_in few = unfold lent_refusal in
-          simp (eq_eqb own 0 ok, le_ltb (length counts) COUNTS long, lt_ltb (get_or counts 0 0) MOST few)
+          simp (eq-eqb own 0 ok, le-ltb (length counts) COUNTS long, lt-ltb (get_or counts 0 0) MOST few)
 
   -- numbers that are a tally
   pub of_tally : COUNTS ≤ length counts → lent_refusal own counts ≡ refusal_of own (get_or counts 0 0)
-  of_tally long = unfold lent_refusal in simp (le_ltb (length counts) COUNTS long, fails (eqb own 0))
+  of_tally long = unfold lent_refusal in simp (le-ltb (length counts) COUNTS long, fails (eqb own 0))
 
   -- what is not refused is a tally's
   pub is_tally : lent_refusal own counts ≡ 0 → COUNTS ≤ length counts
@@ -36,4 +36,4 @@ module _ (own : ℕ) (counts : List ℕ) where
       by_test (eqb own 0)
       (λ ok. let ten : NO_ROOM ≡ 0 = simp (short, ok) at none in absurd (omega arith))
       (λ bad. absurd (eqb-false own 0 bad (simp (short, bad) at none))))
-      (λ long. ltb_false (length counts) COUNTS long)
+      (λ long. ltb-false (length counts) COUNTS long)

@@ -1,5 +1,5 @@
 -- How many of what stands in sections are of a kind: of sections one after the other, and at most. Assumes nothing.
-use Rattle.std.proofs.Common.{◌≡◌, ℕ, zero, suc, ◌+◌, ◌*◌, ◌≤◌, Bool, true, false, List, [], ◌∷◌, ◌++◌, length, sym, refl, ap, ◌∙◌, true≢false, append_assoc, arith, length_append}
+use Rattle.std.proofs.Common.{◌≡◌, ℕ, zero, suc, ◌+◌, ◌*◌, ◌≤◌, Bool, true, false, List, [], ◌∷◌, ◌++◌, length, sym, refl, ap, ◌∙◌, true≢false, append_assoc, arith, length-append}
 use Rattle.section.specs.Section.{firsts, opened_of, here_at, places_of}
 use Rattle.section.specs.declared.Here.{Here}
 use Rattle.section.specs.declared.Here.TheVariants.{Word, Data, End}
@@ -32,7 +32,7 @@ count_append a b kind = ap (how_many (is_of kind)) (all_append a b) ∙ many_app
 -- a section has at most 4,096 words, and is counted itself
 few_words : (ss : List (List ℕ)) → length (all_of ss) ≤ 4097 * length ss
 few_words [] = omega arith
-few_words (s ∷ ss) = omega (arith, length_append (places_of s) (End ∷ all_of ss), few_words ss, how_many_lem s, (opened s).few)
+few_words (s ∷ ss) = omega (arith, length-append (places_of s) (End ∷ all_of ss), few_words ss, how_many_lem s, (opened s).few)
 
 pub few : (ss : List (List ℕ)) (kind : Kind) → count_of ss kind ≤ 4097 * length ss
 few ss kind = omega (arith, at_most (is_of kind) (all_of ss), few_words ss)

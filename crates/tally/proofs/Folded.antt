@@ -1,5 +1,5 @@
 -- A section counted place by place, its end last, is counted whole. Assumes nothing.
-use Rattle.std.proofs.Common.{◌≡◌, ℕ, ◌+◌, List, [], ◌∷◌, ◌++◌, sym, ap, ◌∙◌, add_zero}
+use Rattle.std.proofs.Common.{◌≡◌, ℕ, ◌+◌, List, [], ◌∷◌, ◌++◌, sym, ap, ◌∙◌, add-zero}
 use mathlib.Core.Path.{fun_ext}
 use mathlib.Core.List.{foldl, foldl-append}
 use Rattle.section.specs.Section.{places_of}
@@ -17,7 +17,7 @@ counting counts here = plus (one_of here) counts
 -- from one place on
 folded : (here : Here) (places : List Here) (counts : List ℕ)
     → foldl counting (counting counts here) places ≡ plus (λ kind. how_many (is_of kind) (here ∷ places)) counts
-folded here [] counts = ap (λ (n : Kind → ℕ). plus n counts) (fun_ext (λ kind. sym (add_zero _)))
+folded here [] counts = ap (λ (n : Kind → ℕ). plus n counts) (fun_ext (λ kind. sym (add-zero _)))
 folded here (after ∷ places) counts =
     folded after places (counting counts here) ∙ plus_plus (one_of here) (λ kind. how_many (is_of kind) (after ∷ places)) counts
 

@@ -1,5 +1,5 @@
 -- A tally at the start of lent numbers is added to as a tally is, and what stands behind it stays. Assumes nothing.
-use Rattle.std.proofs.Common.{◌≡◌, ℕ, ◌+◌, ◌%◌, ◌^◌, ◌<◌, ◌≤◌, eqb, List, [], ◌∷◌, ◌++◌, length, get_or, sym, refl, ap, ◌∙◌, arith, length_append, eqb_true}
+use Rattle.std.proofs.Common.{◌≡◌, ℕ, ◌+◌, ◌%◌, ◌^◌, ◌<◌, ◌≤◌, eqb, List, [], ◌∷◌, ◌++◌, length, get_or, sym, refl, ap, ◌∙◌, arith, length-append, eqb-true}
 use borrow.Author.Tests.{eqb-false}
 use lib.ListN.{get_or-append}
 use Rattle.word.specs.Choice.{by_test}
@@ -24,7 +24,7 @@ module _ (counts rest : List ℕ) (long : COUNTS ≤ length counts) where
 
   refusal_beside : (own : ℕ) → lent_refusal own (counts ++ rest) ≡ refusal_of own (get_or counts 0 0)
   refusal_beside own =
-      of_tally own (counts ++ rest) (omega (arith, length_append counts rest))
+      of_tally own (counts ++ rest) (omega (arith, length-append counts rest))
       ∙ ap (refusal_of own) (get_or-append counts rest 0 0 (omega arith))
 
 module _ (t : Tally) (rest s : List ℕ) (long : COUNTS ≤ length t.counts) where
@@ -40,5 +40,5 @@ module _ (t : Tally) (rest s : List ℕ) (long : COUNTS ≤ length t.counts) whe
 pub too_few : (s counts : List ℕ) → length counts < COUNTS → lent_last s counts ≡ counts
 too_few s counts short =
     by_test (eqb (own_of s) 0)
-    (λ ok. simp (sym (too_short (own_of s) counts (eqb_true (own_of s) 0 ok) short)))
+    (λ ok. simp (sym (too_short (own_of s) counts (eqb-true (own_of s) 0 ok) short)))
     (λ bad. simp (sym (its_own (own_of s) counts (eqb-false (own_of s) 0 bad)), bad))

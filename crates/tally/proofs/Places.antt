@@ -1,6 +1,6 @@
 -- Each kind of the layout has a place of its own there: what is added at a place is added to its kind, and what stands at a place of a section
 -- adds to its kinds. Assumes nothing.
-use Rattle.std.proofs.Common.{◌≡◌, ℕ, zero, suc, ◌+◌, ◌%◌, ◌^◌, ◌<◌, ◌≤◌, Bool, true, eqb, List, [], ◌∷◌, length, get_or, set, sym, refl, ap, ◌∙◌, ap₂, mod_eq_of_lt, arith, eq_eqb, ne_eqb, eqb_true}
+use Rattle.std.proofs.Common.{◌≡◌, ℕ, zero, suc, ◌+◌, ◌%◌, ◌^◌, ◌<◌, ◌≤◌, Bool, true, eqb, List, [], ◌∷◌, length, get_or, set, sym, refl, ap, ◌∙◌, ap₂, mod-eq_of_lt, arith, eq-eqb, ne_eqb, eqb-true}
 use Rattle.word.specs.Choice.{both, parts}
 use Rattle.tally.specs.Kinds.{Kind, layout, COUNTS, one}
 use Rattle.tally.specs.Tally.{plus_on, plus}
@@ -22,11 +22,11 @@ pub off : (a b : ℕ) → (a ≡ b → ⊥) → one (eqb a b) ≡ 0
 off a b h = simp (ne_eqb a b h)
 
 on : (a b : ℕ) → a ≡ b → one (eqb a b) ≡ 1
-on a b h = simp (eq_eqb a b h)
+on a b h = simp (eq-eqb a b h)
 
 module _ (kind : Kind) (kinds : List Kind) (from : ℕ) (o : ordered (kind ∷ kinds) from ≡ true) where
   head : place_of kind ≡ from
-  head = eqb_true (place_of kind) from (parts (eqb (place_of kind) from) (ordered kinds (suc from)) o).0
+  head = eqb-true (place_of kind) from (parts (eqb (place_of kind) from) (ordered kinds (suc from)) o).0
 
   tail : ordered kinds (suc from) ≡ true
   tail = (parts (eqb (place_of kind) from) (ordered kinds (suc from)) o).1
@@ -35,7 +35,7 @@ module _ (kind : Kind) (kinds : List Kind) (from : ℕ) (o : ordered (kind ∷ k
   stays {place} count small other =
       let none : at place kind ≡ 0 = off _ _ (λ e. other (sym head ∙ e)) in
       let same : count + at place kind ≡ count = omega arith in
-      ap (λ (x : ℕ). x % 2 ^ 64) same ∙ mod_eq_of_lt small
+      ap (λ (x : ℕ). x % 2 ^ 64) same ∙ mod-eq_of_lt small
 
 -- a place before them is not theirs
 none_there : (kinds : List Kind) (from place : ℕ) → ordered kinds from ≡ true → place < from → (counts : List ℕ) → Bounded counts

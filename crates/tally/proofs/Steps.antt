@@ -1,5 +1,5 @@
 -- What stands at a place of a section adds to its kinds, one at the place of each. Assumes nothing.
-use Rattle.std.proofs.Common.{◌≡◌, ℕ, ◌+◌, ◌<◌, ◌≤◌, Bool, true, eqb, ltb, leb, ◌⊎◌, List, sym, refl, ap, ◌∙◌, ⊎_elim, arith, ltb_true, eq_eqb, ne_eqb, eqb_true, leb_true}
+use Rattle.std.proofs.Common.{◌≡◌, ℕ, ◌+◌, ◌<◌, ◌≤◌, Bool, true, eqb, ltb, leb, ◌⊎◌, List, sym, refl, ap, ◌∙◌, ⊎_elim, arith, ltb-true, eq-eqb, ne_eqb, eqb-true, leb-true}
 use borrow.Author.Tests.{eqb-false}
 use Rattle.word.specs.Choice.{inside, parts, by_test}
 use Rattle.insn.specs.Numbers.{flow_number}
@@ -36,7 +36,7 @@ in_turn m n same counts = plus_plus m n counts ∙ at_once same counts
 shift : (k a b : ℕ) → one (eqb (k + a) (k + b)) ≡ one (eqb b a)
 shift k a b =
     by_test (eqb b a)
-    (λ e. ap one (eq_eqb (k + a) (k + b) (omega (arith, eqb_true b a e)) ∙ sym e))
+    (λ e. ap one (eq-eqb (k + a) (k + b) (omega (arith, eqb-true b a e)) ∙ sym e))
     (λ e. ap one (ne_eqb (k + a) (k + b) (λ same. eqb-false b a e (omega arith)) ∙ sym e))
 
 pub flow_small : (f : Flow) → flow_number f < 8
@@ -51,7 +51,7 @@ flow_small Trap = omega arith
 
 -- a kind of refusals
 refusal_laid : (n : ℕ) → is_laid (refusal n) ≡ true → (2 ≤ n) × (n ≤ 3)
-refusal_laid n l = let p = parts (leb 2 n) (leb n 3) l in (leb_true 2 n p.0, leb_true n 3 p.1)
+refusal_laid n l = let p = parts (leb 2 n) (leb n 3) l in (leb-true 2 n p.0, leb-true n 3 p.1)
 
 module _ (d : Decoded) (ok : d.refusal ≡ 0) where
   f : ℕ
@@ -75,11 +75,11 @@ module _ (d : Decoded) (ok : d.refusal ≡ 0) where
         off d.refusal m (λ e. omega arith),
       )
   named_adds (flow m) l =
-      let h = ltb_true m 8 l in
-      simp (eq_eqb d.refusal 0 ok)
+      let h = ltb-true m 8 l in
+      simp (eq-eqb d.refusal 0 ok)
       (omega (arith, off (5 + m) 1 (λ e. omega arith), off (5 + m) (13 + n) (λ e. omega arith), shift 5 m f))
   named_adds (root m) l =
-      simp (eq_eqb d.refusal 0 ok)
+      simp (eq-eqb d.refusal 0 ok)
       (omega (
         arith,
         off (13 + m) 1 (λ e. omega arith),

@@ -1,5 +1,5 @@
 -- Flows and roots each sum to the accepted words, and words are data, accepted or refused. Assumes nothing.
-use Rattle.std.proofs.Common.{◌≡◌, ℕ, zero, suc, ◌+◌, ◌<◌, Bool, false, eqb, ltb, List, [], ◌∷◌, ◌++◌, map, get_or, sym, refl, ap, ◌∙◌, ⊎_elim, arith, ltb_false, ltb_true, le_ltb, lt_ltb, eq_eqb, ne_eqb, eqb_true}
+use Rattle.std.proofs.Common.{◌≡◌, ℕ, zero, suc, ◌+◌, ◌<◌, Bool, false, eqb, ltb, List, [], ◌∷◌, ◌++◌, map, get_or, sym, refl, ap, ◌∙◌, ⊎_elim, arith, ltb-false, ltb-true, le-ltb, lt-ltb, eq-eqb, ne_eqb, eqb-true}
 use borrow.Author.Tests.{eqb-false}
 use Rattle.word.specs.Choice.{both, by_test}
 use Rattle.insn.specs.Numbers.{flow_number}
@@ -51,17 +51,17 @@ module _ (kind_of : ℕ → Kind) (number : Kind → ℕ) where
   none_of none (suc n) = omega (arith, sum_append number (firsts kind_of n) (kind_of n ∷ []), none_of none n, none n)
 
   one_of : (m : ℕ) → ((n : ℕ) → number (kind_of n) ≡ one (eqb m n)) → (n : ℕ) → sum_on number (firsts kind_of n) ≡ one (ltb m n)
-  one_of m its zero = ap one (sym (le_ltb m 0 (omega arith)))
+  one_of m its zero = ap one (sym (le-ltb m 0 (omega arith)))
   one_of m its (suc n) =
       by_test (ltb m n)
       (λ e.
-      let low = ltb_true m n e in
+      let low = ltb-true m n e in
       omega (
         arith,
         sum_append number (firsts kind_of n) (kind_of n ∷ []),
         one_of m its n ∙ ap one e,
         its n ∙ ap one (ne_eqb m n (λ same. omega arith)),
-        ap one (lt_ltb m (suc n) (omega arith)),
+        ap one (lt-ltb m (suc n) (omega arith)),
       ))
       (λ e.
       by_test (eqb m n)
@@ -71,7 +71,7 @@ module _ (kind_of : ℕ → Kind) (number : Kind → ℕ) where
         sum_append number (firsts kind_of n) (kind_of n ∷ []),
         one_of m its n ∙ ap one e,
         its n ∙ ap one same,
-        ap one (lt_ltb m (suc n) (omega (arith, eqb_true m n same))),
+        ap one (lt-ltb m (suc n) (omega (arith, eqb-true m n same))),
       ))
       (λ other.
       omega (
@@ -79,7 +79,7 @@ module _ (kind_of : ℕ → Kind) (number : Kind → ℕ) where
         sum_append number (firsts kind_of n) (kind_of n ∷ []),
         one_of m its n ∙ ap one e,
         its n ∙ ap one other,
-        ap one (le_ltb m (suc n) (let differ = eqb-false m n other in let above = ltb_false m n e in omega arith)),
+        ap one (le-ltb m (suc n) (let differ = eqb-false m n other in let above = ltb-false m n e in omega arith)),
       )))
 
 -- kinds by a number that every accepted word has, and no other word
@@ -93,7 +93,7 @@ module _ (kind_of : ℕ → Kind) (number_of : Decoded → ℕ) (bound : ℕ)
       by_test (is_accepted d)
       (λ e.
       one_of kind_of (λ kind. one (word_is d kind)) (number_of d) (λ n. ap one (word-has d n ∙ ap (λ (b : Bool). both b (eqb (number_of d) n)) e)) bound
-      ∙ ap one (lt_ltb (number_of d) bound (below w addr (eqb_true d.refusal 0 e)) ∙ sym e))
+      ∙ ap one (lt-ltb (number_of d) bound (below w addr (eqb-true d.refusal 0 e)) ∙ sym e))
       (λ e.
       none_of kind_of (λ kind. one (word_is d kind)) (λ n. ap one (word-has d n ∙ ap (λ (b : Bool). both b (eqb (number_of d) n)) e)) bound
       ∙ ap one (sym e))
@@ -110,12 +110,12 @@ each_word (Word w addr) =
     let n = (decode_of w addr).refusal in
     by_test (eqb n 0)
     (λ e.
-    let zero = eqb_true n 0 e in
+    let zero = eqb-true n 0 e in
     omega (arith, off n 2 (λ two. omega arith), off n 3 (λ three. omega arith), ap one e))
     (λ e.
     ⊎_elim
-    (λ two. omega (arith, ap one (eq_eqb n 2 two), off n 3 (λ three. omega arith), ap one e))
-    (λ three. omega (arith, off n 2 (λ two. omega arith), ap one (eq_eqb n 3 three), ap one e))
+    (λ two. omega (arith, ap one (eq-eqb n 2 two), off n 3 (λ three. omega arith), ap one e))
+    (λ three. omega (arith, off n 2 (λ two. omega arith), ap one (eq-eqb n 3 three), ap one e))
     (two_or_three w addr (eqb-false n 0 e)))
 each_word (Data w addr) = refl
 each_word End = refl

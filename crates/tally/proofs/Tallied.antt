@@ -1,6 +1,6 @@
 -- The tally of sections that were added one by one, from zeros on: each count is the number of what it counts in those that were added, and none
 -- wraps. Assumes nothing.
-use Rattle.std.proofs.Common.{◌≡◌, ℕ, suc, ◌+◌, ◌-◌, ◌^◌, ◌<◌, ◌≤◌, true, false, eqb, ltb, List, [], ◌∷◌, ◌++◌, map, length, get_or, take, sym, refl, ap, ◌∙◌, ap₂, append_assoc, append_nil, mod_eq_of_lt, arith, length_append, ltb_false, ltb_true, le_ltb, lt_ltb, ne_eqb}
+use Rattle.std.proofs.Common.{◌≡◌, ℕ, suc, ◌+◌, ◌-◌, ◌^◌, ◌<◌, ◌≤◌, true, false, eqb, ltb, List, [], ◌∷◌, ◌++◌, map, length, get_or, take, sym, refl, ap, ◌∙◌, ap₂, append_assoc, append-nil, mod-eq_of_lt, arith, length-append, ltb-false, ltb-true, le-ltb, lt-ltb, ne_eqb}
 use mathlib.Core.Path.{fun_ext}
 use lib.Seq.{take-nil}
 use Rattle.word.specs.Choice.{by_test}
@@ -15,7 +15,7 @@ tally_of ss = record { counts = counts_of ss }
 plus_on_lem : (m n : Kind → ℕ) → ((kind : Kind) → m kind + n kind < 2 ^ 64) → (kinds : List Kind)
     → plus_on kinds n (map m kinds) ≡ map (λ kind. m kind + n kind) kinds
 plus_on_lem m n small [] = refl
-plus_on_lem m n small (kind ∷ kinds) = ap₂ ◌∷◌ (mod_eq_of_lt (small kind)) (plus_on_lem m n small kinds)
+plus_on_lem m n small (kind ∷ kinds) = ap₂ ◌∷◌ (mod-eq_of_lt (small kind)) (plus_on_lem m n small kinds)
 
 -- one more section on those that are in
 one_more : (ss : List (List ℕ)) (s : List ℕ) → length ss < MOST → plus (count_of (s ∷ [])) (counts_of ss) ≡ counts_of (ss ++ s ∷ [])
@@ -33,10 +33,10 @@ module _ (t : Tally) (s : List ℕ) where
 
   module _ (ok : eqb (own_of s) 0 ≡ true) where
     is_full : MOST ≤ get_or t.counts 0 0 → next t s ≡ t
-    is_full full = unfold add_of in simp (ok, le_ltb (get_or t.counts 0 0) MOST full)
+    is_full full = unfold add_of in simp (ok, le-ltb (get_or t.counts 0 0) MOST full)
 
     goes_in : get_or t.counts 0 0 < MOST → next t s ≡ record { counts = plus (count_of (s ∷ [])) t.counts }
-    goes_in room = unfold add_of in simp (ok, lt_ltb (get_or t.counts 0 0) MOST room)
+    goes_in room = unfold add_of in simp (ok, lt-ltb (get_or t.counts 0 0) MOST room)
 
   pub answers : (add_of t s).refusal ≡ refusal_of (own_of s) (get_or t.counts 0 0)
   answers = unfold add_of in refl
@@ -53,29 +53,29 @@ module _ (ss : List (List ℕ)) where
   with_room : (s : List ℕ) (more : List (List ℕ)) → eqb (own_of s) 0 ≡ true → length ss < MOST → rest ss (s ∷ more) ≡ rest (ss ++ s ∷ []) more
   with_room s more ok room =
       let left = MOST - length (ss ++ s ∷ []) in
-      let one_left : MOST - length ss ≡ suc left = omega (arith, length_append ss (s ∷ [])) in
+      let one_left : MOST - length ss ≡ suc left = omega (arith, length-append ss (s ∷ [])) in
       simp (ok, one_left, append_assoc)
 
   with_none : (more : List (List ℕ)) → MOST ≤ length ss → rest ss more ≡ ss
   with_none more full =
       let none_left : MOST - length ss ≡ 0 = omega arith in
-      simp none_left (append_nil ss)
+      simp none_left (append-nil ss)
 
 from : (ss : List (List ℕ)) → length ss ≤ MOST → (more : List (List ℕ)) → add_all (tally_of ss) more ≡ tally_of (rest ss more)
-from ss fits [] = ap tally_of (sym (ap (λ (l : List (List ℕ)). ss ++ l) (take-nil (MOST - length ss)) ∙ append_nil ss))
+from ss fits [] = ap tally_of (sym (ap (λ (l : List (List ℕ)). ss ++ l) (take-nil (MOST - length ss)) ∙ append-nil ss))
 from ss fits (s ∷ more) =
     by_test (eqb (own_of s) 0)
     (λ ok.
     by_test (ltb (length ss) MOST)
     (λ e.
-    let room = ltb_true (length ss) MOST e in
+    let room = ltb-true (length ss) MOST e in
     let in-it : next (tally_of ss) s ≡ tally_of (ss ++ s ∷ []) =
     goes_in (tally_of ss) s ok (omega (arith, how_many_in ss)) ∙ ap (λ (counts : List ℕ). record { counts = counts }) (one_more ss s room) in
     ap (λ (t : Tally). add_all t more) in-it
-    ∙ from (ss ++ s ∷ []) (omega (arith, length_append ss (s ∷ []))) more
+    ∙ from (ss ++ s ∷ []) (omega (arith, length-append ss (s ∷ []))) more
     ∙ ap tally_of (sym (with_room ss s more ok room)))
     (λ e.
-    let full = ltb_false (length ss) MOST e in
+    let full = ltb-false (length ss) MOST e in
     ap (λ (t : Tally). add_all t more) (is_full (tally_of ss) s ok (omega (arith, how_many_in ss)))
     ∙ from ss fits more
     ∙ ap tally_of (with_none ss more full ∙ sym (with_none ss (s ∷ more) full))))

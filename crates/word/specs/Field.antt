@@ -1,8 +1,8 @@
 -- A field of a word, the word with another number in a field, and the laws between the two, for every place and width.
 use Rattle.std.specs.Prelude.{◌≡◌, ℕ, ◌+◌, ◌*◌, ◌/◌, ◌%◌, ◌^◌, ◌<◌, true, T, leb, nat_le, nat_lt}
 use Rattle.std.proofs.Math.Path.{sym, ap}
-use Rattle.std.proofs.Common.{◌∙◌, subst, mod_lt, mod_eq_of_lt, div_one, add_comm, add_assoc, add_mul, mul_assoc, mul_comm, leb→le, ltb_true, pow_pos, pow_add}
-use Rattle.std.proofs.Math.Nat.{le_dest, mul_add_mod_self_right}
+use Rattle.std.proofs.Common.{◌∙◌, subst, mod-lt, mod-eq_of_lt, div-one, add_comm, add_assoc, add-mul, mul_assoc, mul_comm, leb→le, ltb-true, pow_pos, pow-add}
+use Rattle.std.proofs.Math.Nat.{le_dest, mul-add-mod_self_right}
 use native.Mathlib.Omega.{arith}
 use Rattle.std.proofs.Math.Arith.{digits_lt}
 use Rattle.std.proofs.Math.Pow as P
@@ -17,17 +17,17 @@ put w lo k v = w / 2 ^ (lo + k) * 2 ^ (lo + k) + (v * 2 ^ lo + w % 2 ^ lo)
 
 -- a multiple of 2 ^ (lo + k), as one of 2 ^ lo
 regroup : (a lo k : ℕ) → a * 2 ^ (lo + k) ≡ a * 2 ^ k * 2 ^ lo
-regroup a lo k = rw (pow_add 2 lo k, mul_comm (2 ^ lo) (2 ^ k), mul_assoc a (2 ^ k) (2 ^ lo))
+regroup a lo k = rw (pow-add 2 lo k, mul_comm (2 ^ lo) (2 ^ k), mul_assoc a (2 ^ k) (2 ^ lo))
 
 -- what lies below a multiple
 low_of : (a r m s : ℕ) → (a * 2 ^ (m + s) + r) % 2 ^ s ≡ r % 2 ^ s
-low_of a r m s = rw (add_comm m s, regroup a s m) (mul_add_mod_self_right (a * 2 ^ m) (2 ^ s) r)
+low_of a r m s = rw (add_comm m s, regroup a s m) (mul-add-mod_self_right (a * 2 ^ m) (2 ^ s) r)
 
 -- what a field that is put leaves of the others, and of itself
 module _ (w lo k v : ℕ) (fits : nat_lt v (2 ^ k) ≡ true) where
   -- the field with what stands below it
   inner : v * 2 ^ lo + w % 2 ^ lo < 2 ^ (lo + k)
-  inner = rw (add_comm lo k, pow_add 2 k lo) (digits_lt (ltb_true v (2 ^ k) fits) (mod_lt w (pow_pos lo)))
+  inner = rw (add_comm lo k, pow-add 2 k lo) (digits_lt (ltb-true v (2 ^ k) fits) (mod-lt w (pow_pos lo)))
 
   pub put_above : (lo' k' : ℕ) → nat_le (lo + k) lo' ≡ true → field (put w lo k v) lo' k' ≡ field w lo' k'
   unfolding field put
@@ -46,11 +46,11 @@ module _ (w lo k v : ℕ) (fits : nat_lt v (2 ^ k) ≡ true) where
   unfolding field put
   put_at =
       ap (λ (x : ℕ). x / 2 ^ lo % 2 ^ k) together
-      ∙ ap (λ (x : ℕ). x % 2 ^ k) (P.high (w / 2 ^ (lo + k) * 2 ^ k + v) lo (mod_lt w (pow_pos lo)))
-      ∙ P.low (w / 2 ^ (lo + k)) k (ltb_true v (2 ^ k) fits)
+      ∙ ap (λ (x : ℕ). x % 2 ^ k) (P.high (w / 2 ^ (lo + k) * 2 ^ k + v) lo (mod-lt w (pow_pos lo)))
+      ∙ P.low (w / 2 ^ (lo + k)) k (ltb-true v (2 ^ k) fits)
     where
       together : w / 2 ^ (lo + k) * 2 ^ (lo + k) + (v * 2 ^ lo + w % 2 ^ lo) ≡ (w / 2 ^ (lo + k) * 2 ^ k + v) * 2 ^ lo + w % 2 ^ lo
-      together = rw (regroup (w / 2 ^ (lo + k)) lo k, add_mul) (sym (add_assoc _ _ _))
+      together = rw (regroup (w / 2 ^ (lo + k)) lo k, add-mul) (sym (add_assoc _ _ _))
 
   pub put_below : (lo' k' : ℕ) → nat_le (lo' + k') lo ≡ true → field (put w lo k v) lo' k' ≡ field w lo' k'
   unfolding field put
@@ -73,7 +73,7 @@ module _ (w lo k v : ℕ) (fits : nat_lt v (2 ^ k) ≡ true) where
 -- a field of k bits is below 2 ^ k
 pub small : (w lo k : ℕ) → field w lo k < 2 ^ k
 unfolding field
-small w lo k = mod_lt (w / 2 ^ lo) (pow_pos k)
+small w lo k = mod-lt (w / 2 ^ lo) (pow_pos k)
 
 -- a field of j + k bits is its upper j bits and its lower k
 pub splits : (w lo j k : ℕ) → field w lo (j + k) ≡ field w (lo + k) j * 2 ^ k + field w lo k
@@ -98,7 +98,7 @@ within w lo k lo' k' h = inside (le_dest (leb→le (lo' + k') k (subst T (sym h)
 -- the lowest bits of a word
 pub low_bits : (w n : ℕ) → field w 0 n ≡ w % 2 ^ n
 unfolding field
-low_bits w n = rw (div_one w)
+low_bits w n = rw (div-one w)
 
 -- what a field that is put leaves of the lowest bits around it, and that it stays within them
 module _ (w lo k v n : ℕ) (fits : nat_lt v (2 ^ k) ≡ true) (h : leb (lo + k) n ≡ true) where
@@ -124,4 +124,4 @@ module _ (w lo k v n : ℕ) (fits : nat_lt v (2 ^ k) ≡ true) (h : leb (lo + k)
 
   pub put_small : w < 2 ^ n → put w lo k v < 2 ^ n
   put_small bound =
-      subst (λ (x : ℕ). x < 2 ^ n) (put_within ∙ ap (λ (x : ℕ). put x lo k v) (low_bits w n ∙ mod_eq_of_lt bound)) (small (put w lo k v) 0 n)
+      subst (λ (x : ℕ). x < 2 ^ n) (put_within ∙ ap (λ (x : ℕ). put x lo k v) (low_bits w n ∙ mod-eq_of_lt bound)) (small (put w lo k v) 0 n)

@@ -1,6 +1,6 @@
 -- `digest::bits_of` meets its contract: a number that is not negative, or else its complement, is what its bits are read as.
 -- Assumes nothing.
-use Rattle.std.proofs.Common.{◌≡◌, ℕ, ◌-◌, ◌^◌, true, false, ℤ, pos, negsuc, refl, ap, ◌∙◌, not_suc_le_zero, arith, w64, SFits, to_z, of_z, ltb_true}
+use Rattle.std.proofs.Common.{◌≡◌, ℕ, ◌-◌, ◌^◌, true, false, ℤ, pos, negsuc, refl, ap, ◌∙◌, not-suc-le-zero, arith, w64, SFits, to_z, of_z, ltb-true}
 use lib.Signed.{mag, lt_z}
 use mir.ValLaws.{to_z_pos, to_z-of_z}
 use Rattle.a32_digest.specs.Numbers.{bits_of}
@@ -12,7 +12,7 @@ complement n = 2 ^ 64 - 1 - n
 -- what the code's test tells of z
 below : {z : ℤ} → SFits w64 z → lt_z (to_z w64 (of_z w64 z)) (pos 0) ≡ true → (to_z w64 (complement (of_z w64 z)) ≡ pos (mag z))
     × (complement (mag z) ≡ bits_of z)
-below {z = pos n} fits e = absurd (not_suc_le_zero (ltb_true n 0 (rw (to_z_pos w64 n fits.sfits) at e)))
+below {z = pos n} fits e = absurd (not-suc-le-zero (ltb-true n 0 (rw (to_z_pos w64 n fits.sfits) at e)))
 below {z = negsuc n} fits e = (ap (to_z w64) {x = complement (of_z w64 (negsuc n))} {y = n} (omega arith) ∙ to_z_pos w64 n fits.sfits, omega arith)
 
 above : {z : ℤ} → SFits w64 z → lt_z (to_z w64 (of_z w64 z)) (pos 0) ≡ false → (to_z w64 (of_z w64 z) ≡ pos (mag z)) × (mag z ≡ bits_of z)

@@ -1,5 +1,5 @@
 -- `digest::digest` meets its contract. The loop's invariant: the digest has the answers to the words passed. Assumes nothing.
-use Rattle.std.proofs.Common.{◌≡◌, ◌-◌, ◌≤◌, refl, add_one, arith, rules}
+use Rattle.std.proofs.Common.{◌≡◌, ◌-◌, ◌≤◌, refl, add-one, arith, rules}
 use Rattle.a32_digest.specs.Digest.{digest_of}
 use Rattle.a32_digest.proofs.digest as f
 
@@ -12,7 +12,7 @@ abbrev μ_loop : f.Tie.MeasureT-loop
 loop_again : f.Tie.Need-loop-again Inv-loop μ_loop
 loop_again c = (
   omega arith,
-  rw add_one
+  rw add-one
       (simp (
         c.answer.ensures,
         c.before.decode.ensures,

@@ -1,5 +1,5 @@
 -- `word::join` meets its contract. The loop's invariant: the fields from `n` on are joined. Assumes nothing.
-use Rattle.std.proofs.Common.{◌≡◌, suc, ◌-◌, ◌%◌, ◌^◌, ◌≤◌, length, drop, le_refl, arith, drop_of_length_le, rules}
+use Rattle.std.proofs.Common.{◌≡◌, suc, ◌-◌, ◌%◌, ◌^◌, ◌≤◌, length, drop, le_refl, arith, drop_of_length-le, rules}
 use native.Mathlib.Nat.{mod-add-mod, add-mod-mod}
 use lib.Pow.{mod-mod-pow}
 use Rattle.word.specs.Layout.{join}
@@ -28,6 +28,6 @@ loop_again c =
 
 pub join_spec : {M : Type 1} → f.Statement.statement M
 join_spec =
-    f.Tie.close (f.Tie.spec Inv-loop μ_loop (λ c. (omega arith, rw (drop_of_length_le c.args.widths.now (le_refl _)))) (search rules)
+    f.Tie.close (f.Tie.spec Inv-loop μ_loop (λ c. (omega arith, rw (drop_of_length-le c.args.widths.now (le_refl _)))) (search rules)
     (search rules) (search rules) shl_above (search rules) (search rules) (search rules) (search rules) loop_again (search rules)
     (λ c. let none : c.before.loop.n ≡ 0 = omega arith in simp none at c.before.loop.inv.1))

@@ -1,11 +1,11 @@
 -- `word::negative` meets its contract: a number of 32 bits, negated, fits 64. Assumes nothing.
-use Rattle.std.proofs.Common.{◌≡◌, ℕ, zero, suc, ◌^◌, ◌<◌, pos, negsuc, ◌-ℤ◌, neg_ℤ, refl, ap, arith, w64, SFits, rules, lt_ltb}
+use Rattle.std.proofs.Common.{◌≡◌, ℕ, zero, suc, ◌^◌, ◌<◌, pos, negsuc, ◌-ℤ◌, neg_ℤ, refl, ap, arith, w64, SFits, rules, lt-ltb}
 use mir.ValLaws.{to_z_pos, to_z-of_z}
 use Rattle.word.proofs.negative as f
 
 from_zero : (v : ℕ) → pos 0 -ℤ pos v ≡ neg_ℤ (pos v)
 from_zero zero = refl
-from_zero (suc v) = simp (lt_ltb 0 (suc v) (omega arith)) (ap negsuc (omega arith))
+from_zero (suc v) = simp (lt-ltb 0 (suc v) (omega arith)) (ap negsuc (omega arith))
 
 fits : (v : ℕ) → v < 2 ^ 32 → SFits w64 (neg_ℤ (pos v))
 fits zero h = record { sfits = omega arith }

@@ -1,13 +1,13 @@
 -- `word::sext` meets its contract: with `half` the sign's own weight, `v + 2 ^ 32 - 2 ^ n` is summed in steps that stay
 -- within 32 bits. Assumes nothing.
-use Rattle.std.proofs.Common.{◌≡◌, ℕ, suc, ◌+◌, ◌-◌, ◌*◌, ◌%◌, ◌^◌, ◌<◌, ◌≤◌, sub_one, arith, pow_mono, rules, le_ltb, lt_ltb}
+use Rattle.std.proofs.Common.{◌≡◌, ℕ, suc, ◌+◌, ◌-◌, ◌*◌, ◌%◌, ◌^◌, ◌<◌, ◌≤◌, sub-one, arith, pow_mono, rules, le-ltb, lt-ltb}
 use Rattle.word.specs.Signed.{sext_of}
 use Rattle.word.proofs.One.{shifted_one}
 use Rattle.word.proofs.sext as f
 
 -- two halves
 halves : (n : ℕ) → 0 < n → 2 ^ n ≡ 2 * 2 ^ (n - 1)
-halves (suc n) h = rw sub_one (omega arith)
+halves (suc n) h = rw sub-one (omega arith)
 
 half_le : (n : ℕ) → n < 32 → 2 ^ (n - 1) ≤ 2147483648
 half_le n h = pow_mono {j = 31} (omega arith)
@@ -28,7 +28,7 @@ weighs c = shifted_one (c.before.args.n - 1) (omega arith)
 
 returns_2 : f.Tie.Need-returns-2
 returns_2 c = unfold sext_of in
-    simp (le_ltb _ _ (rw (weighs c) at c.if1.left))
+    simp (le-ltb _ _ (rw (weighs c) at c.if1.left))
     (widened _ _ c.before.pre.0 c.before.pre.1 c.before.pre.2 _ (weighs c) c.if1.left)
 
 pub sext_spec : {M : Type 1} → f.Statement.statement M
@@ -37,4 +37,4 @@ sext_spec =
     (λ c. rw (shifted_one (c.before.args.n - 1) (omega arith)) (half_le c.before.args.n (omega arith)))
     (λ c. record { fits = first _ _ c.before.pre.0 c.before.pre.1 c.before.pre.2 _ (weighs c) c.if1.left })
     (λ c. record { fits = second _ _ c.before.pre.0 c.before.pre.1 c.before.pre.2 _ (weighs c) c.if1.left })
-    (λ c. unfold sext_of in simp (lt_ltb _ _ (rw (shifted_one (c.before.args.n - 1) (omega arith)) at c.if1.taken))) returns_2)
+    (λ c. unfold sext_of in simp (lt-ltb _ _ (rw (shifted_one (c.before.args.n - 1) (omega arith)) at c.if1.taken))) returns_2)
