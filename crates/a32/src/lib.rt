@@ -2,6 +2,8 @@
 //!
 //! The top-level split follows the architecture reference manual's A5 decode tree on bits 27:25, and each group below is
 //! one of its tables. Condition 15 is not a condition at all but a second instruction space, so it leaves first.
+#![tactic(auto)]
+
 ghost use Rattle.std.specs.Prelude.{◌≡◌};
 ghost use Rattle.a32.specs.Decode.{decode_of, decode_bytes_of, group_of, dp_misc_of, plain_of, extra_of, control_of};
 

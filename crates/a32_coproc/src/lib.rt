@@ -1,4 +1,6 @@
 //! The generic coprocessor instructions, mod.rs's `coproc`.
+#![tactic(auto)]
+
 ghost use Rattle.std.specs.Prelude.{◌≡◌, ◌<◌};
 ghost use Rattle.a32_coproc.specs.Coproc.{coproc_of, generic_of, floating_of, coprocessor_of, co_reg_of, by_l, transfer_name};
 ghost use Rattle.a32_coproc.specs.Coproc.{register_move_of, operation_of, six_of, pair_move_of, transfer_of, unindexed_of};

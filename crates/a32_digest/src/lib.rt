@@ -1,4 +1,6 @@
 //! A digest of the decoder's answers, by which it is compared with another decoder over every word.
+#![tactic(auto)]
+
 ghost use Rattle.std.specs.Prelude.{◌≡◌};
 ghost use Rattle.a32_digest.specs.Numbers.{bits_of, signed_numbers, mark_number, index_numbers, mem_numbers, operand_numbers, places_numbers};
 ghost use Rattle.a32_digest.specs.Numbers.{insn_numbers};

@@ -1,1 +1,2 @@
 //! What an address does to an answer.
+#![tactic(auto)]

@@ -1,4 +1,6 @@
 //! The rotated immediates, mod.rs's `so_imm` and `so_imm_ops`.
+#![tactic(auto)]
+
 mod table;
 
 ghost use Rattle.std.specs.Prelude.{◌≡◌, ◌<◌};

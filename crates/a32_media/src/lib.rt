@@ -1,4 +1,6 @@
 //! The media instructions, a32.rs's `media`.
+#![tactic(auto)]
+
 ghost use Rattle.std.specs.Prelude.{◌≡◌};
 ghost use Rattle.a32_media.specs.Media.{media_of, udf_of, bfx_of, bf_of, bf_width_of, div_of, ssat_of, usat_of, sat_of, sat_shift_of, rev_or_extend_of, rev_of};
 ghost use Rattle.a32_media.specs.Media.{extend_of, extend_by_of, rotate_of};

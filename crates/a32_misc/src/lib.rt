@@ -1,4 +1,6 @@
 //! The control words with bit 7 clear, a32.rs's `misc`.
+#![tactic(auto)]
+
 ghost use Rattle.std.specs.Prelude.{◌≡◌};
 ghost use Rattle.a32_misc.specs.Misc.{misc_of, status_of, mrs_of, msr_of, source_of, return_flow, bx_clz_of, bxj_of, blx_of, saturating_of, bkpt_of};
 

@@ -1,4 +1,6 @@
 //! The multiplies and the exclusives, a32.rs's `multiply` and `sync`, and the halfword multiplies, which a32.rs leaves out.
+#![tactic(auto)]
+
 ghost use Rattle.std.specs.Prelude.{◌≡◌, ◌<◌};
 ghost use Rattle.a32_multiply.specs.Multiply.{multiply_of, product_of, adding_of, long_of};
 ghost use Rattle.a32_multiply.specs.Halfword.{halfword_of, halves_of, half_of};

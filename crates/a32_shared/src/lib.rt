@@ -1,4 +1,6 @@
 //! What the groups of the decoder share, from mod.rs.
+#![tactic(auto)]
+
 ghost use Rattle.std.specs.Prelude.{◌≡◌, ◌<◌, ◌%◌, [], ◌∷◌, pos};
 ghost use Rattle.word.specs.Signed.{signed};
 ghost use Rattle.insn.specs.Answer.{empty};

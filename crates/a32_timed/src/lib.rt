@@ -1,4 +1,6 @@
 //! What the benchmark times of decoding, through one call from another language.
+#![tactic(auto)]
+
 ghost use Rattle.std.specs.Prelude.{◌≡◌};
 ghost use Rattle.a32_timed.specs.Timed.{decoded_of};
 

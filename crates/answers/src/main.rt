@@ -1,5 +1,7 @@
 //! Reads records of an address and a word from standard input, low byte first, and prints of each the address, a digest of the
 //! whole answer, and the line of the listing.
+#![tactic(auto)]
+
 ghost use Rattle.std.specs.Prelude.{◌+◌, ◌≤◌, length};
 
 use a32_digest::digest;

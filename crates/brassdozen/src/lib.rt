@@ -1,5 +1,7 @@
 //! What programs in C and Rust call: numbers and slices alone cross such a call, so an instruction value goes as a row of numbers.
 //! `include/brassdozen.h` declares each function to C.
+#![tactic(auto)]
+
 ghost use Rattle.std.specs.Prelude.{◌≡◌, [], ◌∷◌};
 ghost use Rattle.a32.specs.Decode.{decode_of, decode_bytes_of};
 ghost use Rattle.text.specs.Fits.{answer_of, last_of};

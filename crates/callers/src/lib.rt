@@ -1,4 +1,6 @@
 //! The index of a section's direct calls: built, and updated when one word is replaced.
+#![tactic(auto)]
+
 ghost use Rattle.std.specs.Prelude.{◌≡◌, ◌+◌, ◌*◌, ◌<◌, ◌≤◌, length};
 ghost use Rattle.text.specs.Text.{written};
 ghost use Rattle.section.specs.Section.{opened_of, here_of};

@@ -1,4 +1,6 @@
 //! An index of calls in a lent array of numbers: an update, and the callers of a target.
+#![tactic(auto)]
+
 ghost use Rattle.std.specs.Prelude.{◌≡◌, [], ◌∷◌, ◌+◌, ◌*◌, ◌≤◌, eqb, length};
 ghost use Rattle.word.specs.Choice.{pick};
 ghost use Rattle.text.specs.Text.{written};

@@ -1,5 +1,7 @@
 //! The encoder: an instruction value's word is put together from its name and operands, and the decoder says whether it
 //! has that value for its answer. A home word is the word that an answer leads to.
+#![tactic(auto)]
+
 ghost use Rattle.std.specs.Prelude.{◌≡◌};
 ghost use Rattle.encode.specs.Encode.{encode_of, home_answer, unencoded};
 

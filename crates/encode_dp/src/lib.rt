@@ -1,4 +1,6 @@
 //! The word of a data processing instruction, from its answer.
+#![tactic(auto)]
+
 ghost use Rattle.std.specs.Prelude.{[], ◌∷◌, ◌≡◌, ◌+◌, ◌*◌, ◌/◌, ◌%◌, ◌^◌, ◌≤◌, ◌<◌, eqb, leb};
 ghost use Rattle.insn.specs.Roots.{name};
 ghost use Rattle.word.specs.Choice.{pick, both};

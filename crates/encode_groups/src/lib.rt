@@ -1,4 +1,6 @@
 //! The words of the groups between data processing and block transfers, and of the coprocessor instructions, from their answers.
+#![tactic(auto)]
+
 pub mod coproc;
 pub mod extra;
 pub mod ldst;

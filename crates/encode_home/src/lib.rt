@@ -1,4 +1,5 @@
 //! Home words, and the way back from an answer to its word: definitions, and what is proved of them. The code is in the crates above.
+#![tactic(auto)]
 
 /// What fills the bits of a home word that its row ignores.
 #[derive(Drop)]

@@ -1,4 +1,6 @@
 //! The word of a block transfer, a branch, an unconditional blx, a preload or a barrier, from its answer.
+#![tactic(auto)]
+
 ghost use Rattle.std.specs.Prelude.{◌≡◌, ◌%◌, ◌^◌, eqb};
 ghost use Rattle.word.specs.Choice.{pick};
 ghost use Rattle.insn.specs.Roots.{name};

@@ -1,4 +1,6 @@
 //! Words there and back, for the runs over every word and for timing.
+#![tactic(auto)]
+
 ghost use Rattle.std.specs.Prelude.{◌≡◌};
 ghost use Rattle.encode_trip.specs.Trip.{packed_of, trip_of};
 

@@ -1,4 +1,6 @@
 //! The word that an instruction value leads to, put together from its name and operands, group by group, and filled.
+#![tactic(auto)]
+
 ghost use Rattle.std.specs.Prelude.{◌≡◌, ◌%◌, ◌^◌, eqb};
 ghost use Rattle.word.specs.Choice.{pick};
 ghost use Rattle.insn.specs.Roots.{name};

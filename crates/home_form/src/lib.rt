@@ -1,4 +1,6 @@
 //! A section in its home form: each accepted word is rewritten to its home word, in place, and each word that changed is listed.
+#![tactic(auto)]
+
 ghost use Rattle.std.specs.Prelude.{◌≡◌, ◌*◌, ◌≤◌, length};
 ghost use Rattle.text.specs.Text.{written};
 ghost use Rattle.text.specs.Put.{Room, Put};

@@ -1,4 +1,6 @@
 //! The instruction value: what the decoder answers.
+#![tactic(auto)]
+
 ghost use Rattle.std.specs.Prelude.{◌≡◌, ◌<◌, eqb};
 ghost use Rattle.insn.specs.Answer.{PLACES, empty, filled, accepted, refused};
 ghost use Rattle.insn.specs.Constants.{SP, LR, PC, AL};

@@ -1,4 +1,6 @@
 //! What an operand holds, as numbers, and what a word's fields read off them.
+#![tactic(auto)]
+
 ghost use Rattle.std.specs.Prelude.{◌≡◌, nat_abs};
 ghost use Rattle.insn_parts.specs.Operands.{sign_number, mark_number, plain_flat, index_number, index_reg, index_amount, mem_flat, operand_flat};
 

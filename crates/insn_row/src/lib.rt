@@ -1,4 +1,6 @@
 //! An instruction value as a row of numbers: the row that `value` reads. A row is written, or compared with one that is there.
+#![tactic(auto)]
+
 ghost use Rattle.std.specs.Prelude.{◌≡◌, [], ◌∷◌, ℕ, ◌≤◌, ◌<◌, length, get_or, replicate};
 ghost use Rattle.insn_parts.specs.Operands.{plain_flat};
 ghost use Rattle.text.specs.Fits.{answer_of, last_of};

@@ -1,4 +1,6 @@
 //! Equality of two instruction values, for a program that compares answers.
+#![tactic(auto)]
+
 ghost use Rattle.std.specs.Prelude.{◌≡◌};
 ghost use Rattle.insn_parts.specs.Operands.{operand_flat};
 ghost use Rattle.insn_same.specs.Same.{same_starts, same_ends, same_flat, same_flow, same_operand, same_places, same_of};

@@ -1,4 +1,6 @@
 //! An instruction value from a row of numbers, for programs in other languages: a value does not cross a call of theirs, a row does.
+#![tactic(auto)]
+
 ghost use Rattle.std.specs.Prelude.{◌≡◌, ◌+◌, ◌<◌, ◌^◌, negsuc, get_or};
 ghost use Rattle.insn.specs.Answer.{PLACES};
 ghost use Rattle.insn_value.specs.Value.{low, marked, reg_from, shift_from, status_from, mode_from, flow_from, signed_from, index_from, mem_from};

@@ -1,5 +1,7 @@
 //! The line of a word in the listing (01, "Section and listing"). A writer puts its text into a lent buffer from place `at` on, and gives
 //! the place after it.
+#![tactic(auto)]
+
 ghost use Rattle.std.specs.Prelude.{◌≡◌};
 ghost use Rattle.text.specs.Text.{hex_of};
 ghost use Rattle.text.specs.Fits.{answer_of, last_of};

@@ -1,4 +1,6 @@
 //! The tables of names, and their writers. An entry takes as many bytes as its table's are wide, with spaces after its text.
+#![tactic(auto)]
+
 ghost use Rattle.std.specs.Prelude.{◌≡◌};
 ghost use Rattle.insn.specs.Numbers.{status_number};
 ghost use Rattle.text.specs.Put.{Room, Put};

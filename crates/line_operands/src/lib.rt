@@ -1,4 +1,6 @@
 //! The writers of an instruction's operands. Each writes from place `at` on and gives the place after its text.
+#![tactic(auto)]
+
 ghost use Rattle.std.specs.Prelude.{◌++◌};
 ghost use Rattle.text.specs.Text.{bytes, decimal_of};
 ghost use Rattle.text.specs.Put.{Room, Put};

@@ -1,4 +1,6 @@
 //! Lists the section on standard input.
+#![tactic(auto)]
+
 use libc::STDIN_FILENO;
 use listing_stream::list;
 

@@ -1,4 +1,6 @@
 //! From a file descriptor to standard output.
+#![tactic(auto)]
+
 ghost use Rattle.std.specs.Prelude.{◌≡◌, ◌≤◌, length};
 
 use libc::{STDERR_FILENO, STDOUT_FILENO};

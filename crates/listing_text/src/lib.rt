@@ -1,4 +1,6 @@
 //! The listing of a section, from its bytes to a lent buffer.
+#![tactic(auto)]
+
 ghost use Rattle.std.specs.Prelude.{◌≡◌, ◌++◌, ◌+◌, ◌*◌, ◌≤◌, ◌<◌, eqb, leb, length};
 ghost use Rattle.word.specs.Choice.{pick};
 ghost use Rattle.text.specs.Fits.{answer_of, last_of};

@@ -1,4 +1,6 @@
 //! Lists the sections in the files that its arguments name, each after its file's name.
+#![tactic(auto)]
+
 use libc::STDOUT_FILENO;
 use listing_stream::list;
 

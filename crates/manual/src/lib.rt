@@ -1,1 +1,2 @@
 //! DDI 0406C, chapter A5.
+#![tactic(auto)]

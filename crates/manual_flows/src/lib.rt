@@ -1,4 +1,6 @@
 //! Where control goes from a word, by its row in the manual.
+#![tactic(auto)]
+
 mod destinations;
 mod writers;
 

@@ -1,4 +1,6 @@
 //! The number of a word's row in the manual: the executable twin of the tables in `manual`.
+#![tactic(auto)]
+
 pub mod leads;
 mod pages;
 

@@ -1,6 +1,8 @@
 //! The tables of chapter A5 that lead to no other. A table is an array: its columns, one after another, are the place of a
 //! word's entry. An entry is a letter, the table's titles in their order; a dot is UNDEFINED, and a question mark
 //! UNPREDICTABLE.
+#![tactic(auto)]
+
 pub mod columns;
 
 ghost use Rattle.std.specs.Prelude.{◌≡◌, false, eqb};

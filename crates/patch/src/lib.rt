@@ -1,4 +1,6 @@
 //! A run of bytes of a section with a patch laid over it, as a part of the slice that holds it.
+#![tactic(auto)]
+
 ghost use Rattle.std.specs.Prelude.{◌≡◌, ◌+◌, ◌<◌, ◌≤◌, ◌^◌, length};
 ghost use Rattle.patch.specs.Bounds.{within, reaches};
 ghost use Rattle.patch.specs.Image.{◌from◌, words_refusal};

@@ -1,4 +1,6 @@
 //! A section with a patch laid over it, from their bytes to a lent buffer.
+#![tactic(auto)]
+
 ghost use Rattle.std.specs.Prelude.{◌≡◌};
 ghost use Rattle.text.specs.Put.{Room, Put};
 ghost use Rattle.section.specs.Section.{opened_of};

@@ -1,1 +1,2 @@
 //! What is promised, of the contracts that stand below.
+#![tactic(auto)]

@@ -1,1 +1,2 @@
 //! Different work, different lines: how an answer reads, and its home word.
+#![tactic(auto)]

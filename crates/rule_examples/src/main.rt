@@ -1,4 +1,6 @@
 //! Verdicts on small programs of ten places, a line each: the verdict, and the places of the way to the commit, or the first open place.
+#![tactic(auto)]
+
 ghost use Rattle.std.specs.Prelude.{◌<◌};
 
 use libc::STDOUT_FILENO;

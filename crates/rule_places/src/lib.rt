@@ -1,4 +1,6 @@
 //! A program in numbers, for the rule of a barrier before every commit: flags and a target for each place, pairs of places, and entries.
+#![tactic(auto)]
+
 ghost use Rattle.std.specs.Prelude.{◌≡◌, true, ◌↔◌, ℕ, ◌≤◌, ◌<◌, length, get_or};
 ghost use Rattle.rule_places.specs.Coded.{has, effect, flags_at, target_at, TARGET, Below, Inside};
 

@@ -1,5 +1,7 @@
 //! In which states the routine that is entered at a place in a state may return: a table of these summaries, filled place by place until nothing is
 //! new.
+#![tactic(auto)]
+
 ghost use Rattle.std.specs.Prelude.{◌≡◌, true, false, List, ◌↔◌, ℕ, ◌+◌, ◌*◌, ◌/◌, ◌≤◌, ◌<◌, length, get_or};
 ghost use Rattle.walk_marks.specs.Marks.{marks_of};
 ghost use Rattle.rule_runs.specs.Summaries.{Once, OncePast, Settled};

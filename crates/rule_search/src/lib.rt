@@ -1,6 +1,8 @@
 //! The final walk from the entries, by steps in a routine, over calls that come back, and into what is called: how far each node is, and the way to
 //! it.
 //! A node is a place and a state, `2 * place + 1` where it is dirty. A layer is taken up by one pass over all nodes, so no list of them is kept.
+#![tactic(auto)]
+
 ghost use Rattle.std.specs.Prelude.{◌≡◌, true, false, List, ◌⊎◌, ℕ, ◌+◌, ◌*◌, ◌/◌, ◌≤◌, ◌<◌, length, get_or};
 ghost use Rattle.walk_marks.specs.Marks.{marks_of};
 ghost use Rattle.rule_places.specs.Coded.{has, flags_at, FURTHER, Pair, Inside, Entry, program_of};

@@ -1,5 +1,7 @@
 //! The rule "a barrier before every commit", judged for a program in numbers: violated, with a shortest way; undecided, with the first open place; or
 //! it holds.
+#![tactic(auto)]
+
 ghost use Rattle.std.specs.Prelude.{◌≡◌, true, ◌↔◌, ℕ, ◌+◌, ◌*◌, ◌≤◌, ◌<◌, length};
 ghost use Rattle.walk_marks.specs.Marks.{marks_of};
 ghost use Rattle.rule_runs.specs.Summaries.{Settled};

@@ -1,4 +1,6 @@
 //! RSX: a section of words and data, its checks and its reader.
+#![tactic(auto)]
+
 ghost use Rattle.std.specs.Prelude.{◌≡◌, true, ◌+◌, ◌-◌, ◌*◌, ◌<◌, ◌≤◌, ltb, length};
 ghost use Rattle.section.specs.Ranges.{end_of, follows, rules_hold, is_data};
 ghost use Rattle.section.specs.Section.{marked_of, half_at, version_of, is_known, base_of, range_count, start_of, range_at, ranges_of, count_of};

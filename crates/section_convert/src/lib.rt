@@ -1,4 +1,6 @@
 //! A section in its other version, from its bytes to a lent buffer.
+#![tactic(auto)]
+
 ghost use Rattle.std.specs.Prelude.{◌≡◌, [], ◌∷◌, ◌≤◌, length};
 ghost use Rattle.text.specs.Fits.{answer_of, last_of};
 ghost use Rattle.text.specs.Put.{Room, Put};

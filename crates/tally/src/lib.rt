@@ -1,4 +1,6 @@
 //! Counts over the sections of a release, added one by one.
+#![tactic(auto)]
+
 ghost use Rattle.std.specs.Prelude.{◌≡◌, ◌+◌, ◌<◌, ◌≤◌, [], ◌∷◌, length};
 ghost use Rattle.insn.specs.Roots.{NAMES};
 ghost use Rattle.section.specs.Section.{opened_of};

@@ -1,4 +1,6 @@
 //! Writers of short texts into a lent buffer. Each writes from place `at` on and gives the place after its text.
+#![tactic(auto)]
+
 ghost use Rattle.std.specs.Prelude.{◌≡◌, [], ◌∷◌, ◌*◌, ◌<◌, ◌≤◌, ◌^◌};
 ghost use Rattle.text.specs.Text.{decimal_of, signed_of, hex_digit, hex_of};
 ghost use Rattle.text.specs.Fits.{answer_of, last_of};

@@ -1,4 +1,6 @@
 //! The walk through a section from an entry place, and its report.
+#![tactic(auto)]
+
 ghost use Rattle.std.specs.Prelude.{◌≡◌, true, false, ◌+◌, ◌≤◌, ◌<◌, length, set, replicate};
 ghost use Rattle.text.specs.Fits.{last_of};
 ghost use Rattle.text.specs.Put.{Room, Put};

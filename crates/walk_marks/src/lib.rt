@@ -1,4 +1,6 @@
 //! Marks on places, 32 to a number, lowest bit first. A contract speaks of a list of booleans; how they are kept is known here alone.
+#![tactic(auto)]
+
 ghost use Rattle.std.specs.Prelude.{◌≡◌, true, false, ◌*◌, ◌≤◌, ◌<◌, length, get_or, set};
 ghost use Rattle.walk_marks.specs.Looking.{First, Passed};
 ghost use Rattle.walk_marks.specs.Marks.{bits_of, marks_of};

@@ -1,4 +1,6 @@
 //! What stands at a place leads on, to a target, or nowhere.
+#![tactic(auto)]
+
 ghost use Rattle.std.specs.Prelude.{◌≡◌, ◌<◌};
 ghost use Rattle.section.specs.Section.{opened_of};
 ghost use Rattle.walk_steps.specs.Leads.{goes_on, goes_to, stops, flow_leads, answer_leads, here_leads, leads_at};

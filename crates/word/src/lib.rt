@@ -1,4 +1,6 @@
 //! The fields of a word, and 32-bit numbers that stand for signed ones.
+#![tactic(auto)]
+
 ghost use Rattle.std.specs.Prelude.{◌≡◌, ◌+◌, ◌-◌, ◌%◌, ◌^◌, ◌<◌, ◌≤◌, T, length, pos};
 ghost use Rattle.word.specs.Bytes.{word_at};
 ghost use Rattle.word.specs.Field.{field};

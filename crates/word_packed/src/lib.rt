@@ -1,4 +1,6 @@
 //! A refusal's number and a word as one number, for what crosses a call from another language.
+#![tactic(auto)]
+
 ghost use Rattle.std.specs.Prelude.{◌≡◌};
 ghost use Rattle.word_packed.specs.Packed.{packed};
 
