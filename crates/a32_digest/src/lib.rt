@@ -31,7 +31,7 @@ pub extern "C" fn digest(h: u64, first: u32, count: u32, addr: u64) -> u64
 }
 
 /// A digest so far. Each method mixes in the numbers of what it is given.
-#[derive(Drop)]
+#[derive(Clone, Copy)]
 struct State(u64);
 
 impl State {

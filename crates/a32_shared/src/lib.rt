@@ -168,7 +168,7 @@ pub fn shift_amount(ty: u32, imm5: u32) -> u8
 }
 
 /// A shift with its amount.
-#[derive(Drop)]
+#[derive(Clone, Copy)]
 pub struct DecodedShift {
     pub kind: Shift,
     pub amount: u8,

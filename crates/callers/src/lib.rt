@@ -132,7 +132,7 @@ fn fill(index: &mut [u32], section: &[u8], opened: Opened) -> usize
 }
 
 /// How many entries an index has, or the number of a refusal and 0.
-#[derive(Drop)]
+#[derive(Clone, Copy)]
 pub struct Indexed {
     pub refusal: u8,
     pub count: usize,

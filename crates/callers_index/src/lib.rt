@@ -19,14 +19,14 @@ const NUMBERS: usize = 2048;
 pub const MOST: usize = 1024;
 
 /// A call: the address that it goes to, and its own.
-#[derive(Drop)]
+#[derive(Clone, Copy)]
 pub struct Entry {
     pub target: u32,
     pub caller: u32,
 }
 
 /// What a word calls.
-#[derive(Drop)]
+#[derive(Clone, Copy)]
 pub enum Callee {
     None,
     At(u32),
@@ -64,7 +64,7 @@ fn put_entry(index: &mut [u32], at: usize, e: Entry) -> usize
 }
 
 /// What an update makes of the entries ahead: they stay, or a call goes in among them, or an entry that gave its place away comes first.
-#[derive(Drop)]
+#[derive(Clone, Copy)]
 enum Ahead {
     Kept,
     Call(Entry),
@@ -109,7 +109,7 @@ fn rest(ahead: Ahead, f: Entry) -> Ahead
 }
 
 /// How far an update has come: where it writes next, and what is ahead.
-#[derive(Drop)]
+#[derive(Clone, Copy)]
 struct Moving {
     at: usize,
     ahead: Ahead,

@@ -13,7 +13,7 @@ use insn_same::same;
 use word::refusal::NO_WORD;
 
 /// What encoding gives: a word, or the number of a refusal and the word 0.
-#[derive(Drop)]
+#[derive(Clone, Copy)]
 pub struct Encoded {
     pub refusal: u8,
     pub word: u32,

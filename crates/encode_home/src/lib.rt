@@ -2,7 +2,7 @@
 #![tactic(auto)]
 
 /// What fills the bits of a home word that its row ignores.
-#[derive(Drop)]
+#[derive(Clone, Copy)]
 pub enum Filler {
     /// Ones where the manual draws ones.
     Manual,

@@ -27,7 +27,7 @@ const W: u32 = 21;
 const NUMBERS: usize = 3;
 
 /// The word at a place, as it was and as it is at home.
-#[derive(Drop)]
+#[derive(Clone, Copy)]
 pub struct Change {
     pub place: u32,
     pub old: u32,
@@ -35,7 +35,7 @@ pub struct Change {
 }
 
 /// How many words changed, and how many of these were of the unindexed form; or the number of a refusal, and zeros.
-#[derive(Drop)]
+#[derive(Clone, Copy)]
 pub struct Changed {
     pub refusal: u8,
     pub changes: usize,

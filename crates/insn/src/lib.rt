@@ -10,7 +10,7 @@ ghost use Rattle.insn.specs.Numbers.{shift_number, status_number, mode_number, o
 pub mod name;
 
 /// A core register, by its number.
-#[derive(Drop)]
+#[derive(Clone, Copy)]
 pub struct Reg(pub u8);
 
 impl Reg {
@@ -49,7 +49,7 @@ impl Reg {
 }
 
 /// The condition of a word, its own bits 31:28.
-#[derive(Drop)]
+#[derive(Clone, Copy)]
 pub struct Cond(pub u8);
 
 impl Cond {
@@ -70,7 +70,7 @@ impl Cond {
 }
 
 /// The kind of a shift.
-#[derive(Drop)]
+#[derive(Clone, Copy)]
 pub enum Shift {
     Lsl,
     Lsr,
@@ -93,7 +93,7 @@ impl Shift {
 }
 
 /// The status register that `mrs` reads.
-#[derive(Drop)]
+#[derive(Clone, Copy)]
 pub enum Status {
     Apsr,
     Spsr,
@@ -111,7 +111,7 @@ impl Status {
 }
 
 /// How a memory operand computes its address.
-#[derive(Drop)]
+#[derive(Clone, Copy)]
 pub enum AddrMode {
     /// `[base, #disp]`.
     Offset,
@@ -134,14 +134,14 @@ impl AddrMode {
 }
 
 /// An index register with its left shift, or none.
-#[derive(Drop)]
+#[derive(Clone, Copy)]
 pub enum Index {
     Absent,
     Left(Reg, u8),
 }
 
 /// A memory reference.
-#[derive(Drop)]
+#[derive(Clone, Copy)]
 pub struct Mem {
     pub base: Reg,
     pub index: Index,
@@ -173,7 +173,7 @@ impl Mem {
 }
 
 /// One operand, or the empty one of an unused place.
-#[derive(Drop)]
+#[derive(Clone, Copy)]
 pub enum Operand {
     Empty,
     /// A plain register.
@@ -237,13 +237,13 @@ impl Operand {
 }
 
 /// One of an instruction's operand places.
-#[derive(Drop)]
+#[derive(Clone, Copy)]
 pub struct Place {
     pub operand: Operand,
 }
 
 /// What the instruction does to control flow.
-#[derive(Drop)]
+#[derive(Clone, Copy)]
 pub enum Flow {
     /// Execution continues at the next instruction.
     Next,
@@ -300,7 +300,7 @@ impl Flow {
 pub const PLACES: usize = 6;
 
 /// A decoded instruction.
-#[derive(Drop)]
+#[derive(Clone, Copy)]
 pub struct Insn {
     /// Where it starts.
     pub addr: u64,
@@ -349,7 +349,7 @@ impl Insn {
 }
 
 /// An instruction, or the number of the refusal beside an empty one.
-#[derive(Drop)]
+#[derive(Clone, Copy)]
 pub struct Decoded {
     pub refusal: u8,
     pub insn: Insn,

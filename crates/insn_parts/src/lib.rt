@@ -9,7 +9,7 @@ use insn::{Index, Mem, Operand};
 pub mod read;
 
 /// An operand as numbers: its kind, then its values, 0 where it has none.
-#[derive(Drop)]
+#[derive(Clone, Copy)]
 pub struct Flat {
     pub kind: u8,
     /// A register, or the base of a memory reference.

@@ -103,7 +103,7 @@ fn put_header(out: &mut [u8], opened: Opened) -> usize
 }
 
 /// Where the lines so far end, how many of their words are named, and how many are data.
-#[derive(Drop)]
+#[derive(Clone, Copy)]
 struct Lines {
     at: usize,
     named: u32,

@@ -10,7 +10,7 @@ use section::{END, MOST_WORDS};
 use word::refusal::{BAD_BASE, BAD_LENGTH, NO_RUN, TOO_MANY_WORDS};
 
 /// Which slice holds a run, and from which of its bytes on; or the number of a refusal.
-#[derive(Drop)]
+#[derive(Clone, Copy)]
 pub enum Found {
     Patch(usize),
     Section(usize),

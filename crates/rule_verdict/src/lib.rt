@@ -26,7 +26,7 @@ pub const VIOLATED: u8 = 1;
 pub const UNDECIDED: u8 = 2;
 
 /// The nearest commit so far, and how far it is.
-#[derive(Drop)]
+#[derive(Clone, Copy)]
 pub struct Near {
     pub place: usize,
     pub steps: usize,
@@ -106,7 +106,7 @@ fn trace(from: &[u16], way: &mut [u32], x: usize, d: usize)
 }
 
 /// The answer: the number of a refusal, or a verdict with the number of places of the way or the first open place.
-#[derive(Drop)]
+#[derive(Clone, Copy)]
 pub struct Judged {
     pub refusal: u8,
     pub verdict: u8,

@@ -28,7 +28,7 @@ pub const END: usize = 0x1_0000_0000;
 
 /// What a section is opened to, once, for all that go through it: a refusal's number alone, or 0 with the version, the base, how many words
 /// there are, how many ranges of them are data, and where the words start.
-#[derive(Drop)]
+#[derive(Clone, Copy)]
 pub struct Opened {
     pub refusal: u8,
     pub version: u16,
@@ -197,7 +197,7 @@ fn count(bytes: &[u8]) -> usize
 }
 
 /// A range of words that are data: its first place, and how many there are.
-#[derive(Drop)]
+#[derive(Clone, Copy)]
 pub struct Range {
     pub first: u32,
     pub words: u32,
@@ -278,7 +278,7 @@ fn is_data(bytes: &[u8], opened: Opened, place: usize) -> bool
 }
 
 /// What stands at a place: a word and its address, or data and its address, or the end.
-#[derive(Drop)]
+#[derive(Clone, Copy)]
 pub enum Here {
     Word(u32, u32),
     Data(u32, u32),
@@ -296,7 +296,7 @@ pub fn is_end(here: Here) -> bool
 }
 
 /// What stands at a place, and the place after it. The end comes after itself.
-#[derive(Drop)]
+#[derive(Clone, Copy)]
 pub struct Step {
     pub here: Here,
     pub after: usize,
@@ -334,7 +334,7 @@ fn here_at(bytes: &[u8], opened: Opened, place: usize) -> Here
 }
 
 /// The caller's bytes, what they were opened to, and a place.
-#[derive(Drop)]
+#[derive(Clone, Copy)]
 pub struct Reader<'a> {
     pub bytes: &'a [u8],
     pub opened: Opened,

@@ -12,7 +12,7 @@ use text::{Written, put, put_byte, put_whole};
 use word::refusal::{HAS_RANGES, NO_ROOM};
 
 /// The version that a section is converted to.
-#[derive(Drop)]
+#[derive(Clone, Copy)]
 pub enum Target {
     One,
     Two,

@@ -38,7 +38,7 @@ pub const COUNTS: usize = 171;
 const MOST_SECTIONS: u64 = 65_536;
 
 /// The counts by their places. Any numbers are a tally.
-#[derive(Drop)]
+#[derive(Clone, Copy)]
 pub struct Tally {
     pub counts: [u64; COUNTS],
 }
@@ -55,7 +55,7 @@ impl Tally {
 }
 
 /// A refusal's number beside the tally as it was, or 0 beside the tally with one more section.
-#[derive(Drop)]
+#[derive(Clone, Copy)]
 pub struct Added {
     pub refusal: u8,
     pub tally: Tally,

@@ -10,7 +10,7 @@ ghost use Rattle.text.specs.Entry.{word_of, entry_of};
 use word::refusal::NO_ROOM;
 
 /// What writing gives: the number of bytes written, or the number of a refusal and 0.
-#[derive(Drop)]
+#[derive(Clone, Copy)]
 pub struct Written {
     pub refusal: u8,
     pub len: usize,

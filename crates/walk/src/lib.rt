@@ -226,7 +226,7 @@ fn report_len(reached: &[u32], section: &[u8], opened: Opened) -> usize
 }
 
 /// What a walk gives: how many records there are, and how many words were taken up; or the number of a refusal, and zeros.
-#[derive(Drop)]
+#[derive(Clone, Copy)]
 pub struct Walked {
     pub refusal: u8,
     pub records: usize,

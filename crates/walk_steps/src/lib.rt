@@ -12,7 +12,7 @@ use insn::{Cond, Decoded, Flow};
 use section::{Here, Opened, read};
 
 /// Where a walk goes from a word, and what is to be reported of it.
-#[derive(Drop)]
+#[derive(Clone, Copy)]
 pub struct Leads {
     pub word: u32,
     /// It goes on to the place after it.
