@@ -1,9 +1,0 @@
--- `arm::by_s` meets its contract. Assumes nothing.
-use borrow.Author.Rules.{rules}
-use borrow.Author.Tests.{ne_eqb}
-use Rattle.a32_shared.proofs.by_s as f
-
-pub by_s_spec : {M : Type 1} → f.Statement.statement M
-by_s_spec =
-    f.Tie.close (f.Tie.spec (search rules) (λ c. simp (c.if1.true, ← c.before.bit.ensures))
-    (λ c. simp (ne_eqb _ _ c.if1.false, ← c.before.bit.ensures)))

@@ -1,6 +1,0 @@
--- `parts::read::amount_at` meets its contract. Assumes nothing.
-use borrow.Author.Rules.{rules}
-use Rattle.insn_parts.proofs.read.amount_at as f
-
-pub amount_at_spec : {M : Type 1} → f.Statement.statement M
-amount_at_spec = f.Tie.close (f.Tie.spec (search rules) (search rules) (λ c. simp c.before.at.ensures))

@@ -1,6 +1,0 @@
--- `parts::read::register_at` meets its contract. Assumes nothing.
-use borrow.Author.Rules.{rules}
-use Rattle.insn_parts.proofs.read.register_at as f
-
-pub register_at_spec : {M : Type 1} → f.Statement.statement M
-register_at_spec = f.Tie.close (f.Tie.spec (search rules) (search rules) (λ c. simp c.before.at.ensures))
