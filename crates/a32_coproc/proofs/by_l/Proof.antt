@@ -1,9 +1,0 @@
--- `coproc::by_l` meets its contract. Assumes nothing.
-use borrow.Author.Rules.{rules}
-use borrow.Author.Tests.{ne_eqb}
-use Rattle.a32_coproc.proofs.by_l as f
-
-pub by_l_spec : {M : Type 1} → f.Statement.statement M
-by_l_spec =
-    f.Tie.close (f.Tie.spec (search rules) (λ c. simp (c.if1.true, ← c.before.bit.ensures))
-    (λ c. simp (ne_eqb _ _ c.if1.false, ← c.before.bit.ensures)))
