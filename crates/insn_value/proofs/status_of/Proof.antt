@@ -1,6 +1,0 @@
--- `value::status_of` meets its contract. Assumes nothing.
-use borrow.Author.Tests.{ne_eqb}
-use Rattle.insn_value.proofs.status_of as f
-
-pub status_of_spec : {M : Type 1} → f.Statement.statement M
-status_of_spec = f.Tie.close (f.Tie.spec (λ c. simp c.match.keys1) (λ c. simp (ne_eqb _ _ c.match.rest.1)))
