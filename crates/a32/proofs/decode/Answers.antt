@@ -1,0 +1,10 @@
+-- `a32::decode` meets its contract. Assumes nothing.
+use borrow.Author.Tests.{ne_eqb}
+use Rattle.a32.specs.Decode.{decode_of}
+use Rattle.a32.proofs.decode.Goals as goal
+
+pub returns-then-cond-eq15 : goal.returns-then-cond-eq15
+returns-then-cond-eq15 c = unfold decode_of in simp (c.unconditional.ensures, c.if-cond-eq15.true, ← c.bits-cond.ensures)
+
+pub returns : goal.returns
+returns c = unfold decode_of in simp (c.group.ensures, ne_eqb _ _ c.if-cond-eq15.false, ← c.bits-cond.ensures)
