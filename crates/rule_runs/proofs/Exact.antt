@@ -33,11 +33,11 @@ use Rattle.rule_runs.proofs.Tests.{either_way}
 
 -- chains
 along : {R T : Steps} → ((p : ℕ) (s : Bool) (q : ℕ) (u : Bool) → R p s q u → T p s q u)
-    → {p q : ℕ} {s u : Bool} → Way R p s q u → Way T p s q u
+    → {p : ℕ} {s : Bool} {q : ℕ} {u : Bool} → Way R p s q u → Way T p s q u
 along f here = here
 along f (on w x) = on (along f w) (f _ _ _ _ x)
 
-append : {R : Steps} {p q r : ℕ} {s u v : Bool} → Way R p s q u → Way R q u r v → Way R p s r v
+append : {R : Steps} {p q : ℕ} {s u : Bool} {r : ℕ} {v : Bool} → Way R p s q u → Way R q u r v → Way R p s r v
 append w here = w
 append w (on x y) = on (append w x) y
 
@@ -106,7 +106,7 @@ module _ {P : Program} where
   same_run m (inl x) r = step r x.1 x.0
   same_run m {st = st} (inr o) r = rw o.back (m o.routine o.state _ o.summary _ st (call r o.left o.called))
 
-  way_run : {S : Summary} → Met P S → {p q : ℕ} {s u : Bool} {st : List ℕ} → Way (Same P S) p s q u → Run P p s st → Run P q u st
+  way_run : {S : Summary} → Met P S → {p : ℕ} {s : Bool} {q : ℕ} {u : Bool} {st : List ℕ} → Way (Same P S) p s q u → Run P p s st → Run P q u st
   way_run m here r = r
   way_run m (on w x) r = same_run m x (way_run m w r)
 
@@ -181,7 +181,7 @@ module _ {P : Program} where
   same_within c {u = u} (inl x) y = c _ _ _ (u, x.1, onward _ x.0 y)
   same_within c {v = v} (inr o) y = c _ _ _ (o.state, o.left, over o.routine _ o.called o.summary (rw o.back at y))
 
-  way_within : {S : Summary} → Within (OncePast P S) S → {p q : ℕ} {s u v : Bool} → Way (Same P S) p s q u → S q u v → S p s v
+  way_within : {S : Summary} → Within (OncePast P S) S → {p : ℕ} {s : Bool} {q : ℕ} {u v : Bool} → Way (Same P S) p s q u → S q u v → S p s v
   way_within c here y = y
   way_within c (on w x) y = way_within c w (same_within c x y)
 
