@@ -2,11 +2,11 @@
 use mathlib.Core.Path.{◌≡◌, refl, sym, ◌∙◌}
 use mathlib.Core.Bool.{Bool, true, false}
 use mathlib.Core.List.{List}
-use mathlib.Core.Logic.{◌⊎◌, inl, inr, ⊎_elim}
-use Prim.Native.Nat.{ℕ, ◌+◌, ◌*◌, ◌/◌, ◌≤◌, ◌<◌}
+use mathlib.Core.Logic.{◌⊎◌, inl, inr}
+use Prim.Native.Nat.{ℕ, ◌+◌, ◌*◌, ◌/◌}
 use native.Mathlib.Omega.{arith}
 use lib.ListN.{length, get_or}
-use Rattle.rule_places.specs.Coded.{has, effect, flags_at, target_at, NEXT, TARGET, FURTHER, CALLS, Pair, Target, Entry, program_of}
+use Rattle.rule_places.specs.Coded.{has, effect, flags_at, target_at, NEXT, TARGET, FURTHER, CALLS, Pair, Entry, program_of}
 use Rattle.rule_returns.specs.Table.{num, both, either, table_at, Table}
 use Rattle.rule_returns.proofs.Tables.{both_true, both_hold}
 use Rattle.rule_search.specs.Search.{node, dirty_at, StepTo, Spreads, Enters, LeadsOn, Lent}

@@ -6,7 +6,7 @@ use mathlib.Core.Logic.{◌⊎◌, inl, inr, ⊎_elim}
 use Prim.Native.Nat.{ℕ, ◌+◌, ◌*◌, ◌-◌, ◌≤◌, ◌<◌}
 use native.Mathlib.Omega.{arith}
 use lib.ListN.{length, get_or}
-use Rattle.rule_runs.proofs.Tests.{by_test, true_false, either_way}
+use Rattle.rule_runs.proofs.Tests.{either_way}
 use Rattle.rule_returns.specs.Table.{num, either}
 use Rattle.rule_returns.proofs.Tables.{either_false, num_small}
 use Rattle.rule_search.specs.Search.{far, dst, reached_in, Spreads, TakesUp, Passes, Layer, Level, Measured}

@@ -1,19 +1,16 @@
 -- Where a node leads. Assumes nothing.
-use mathlib.Core.Path.{◌≡◌, refl, sym, ◌∙◌}
+use mathlib.Core.Path.{◌≡◌, refl, ◌∙◌}
 use mathlib.Core.Bool.{Bool, true, false}
 use mathlib.Core.List.{List}
-use mathlib.Core.Logic.{◌⊎◌, inl, inr, ⊎_elim, ◌↔◌}
-use Prim.Native.Nat.{ℕ, ◌+◌, ◌*◌, ◌/◌, ◌%◌, ◌≤◌, ◌<◌}
+use mathlib.Core.Logic.{◌⊎◌, inl, inr}
+use Prim.Native.Nat.{ℕ, ◌+◌, ◌/◌, ◌%◌}
 use native.Mathlib.Omega.{arith}
 use borrow.Author.Tests.{eq-eqb, ne_eqb}
-use lib.Dec.{eqb}
-use lib.ListN.{length, get_or}
 use Rattle.rule_runs.specs.Runs.{Program}
-use Rattle.rule_runs.specs.Summaries.{Over, Same, Flow}
-use Rattle.rule_runs.proofs.Tests.{by_test}
-use Rattle.rule_places.specs.Coded.{has, effect, flags_at, NEXT, CALLS, Target, program_of}
-use Rattle.rule_returns.specs.Table.{num, Table}
-use Rattle.rule_search.specs.Search.{node, dirty_at, StepTo, Enters, LeadsOn}
+use Rattle.rule_runs.specs.Summaries.{Flow}
+use Rattle.rule_places.specs.Coded.{has, effect, flags_at, CALLS, Target, program_of}
+use Rattle.rule_returns.specs.Table.{Table}
+use Rattle.rule_search.specs.Search.{node, dirty_at, StepTo, LeadsOn}
 
 -- a node's place and state
 pub half_node : (q : ℕ) (u : Bool) → node q u / 2 ≡ q
