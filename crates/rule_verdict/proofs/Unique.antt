@@ -1,20 +1,19 @@
 -- No second answer fits the contract of `judge`, as the check reads it from the source, whatever stands in the room that is lent; of the shortest
 -- ways the contract takes any. And the answer is a verdict by the definition. Assumes nothing.
 use mathlib.Core.Path.{◌≡◌, refl, sym, ap, ◌∙◌}
-use mathlib.Core.Bool.{Bool, true}
+use mathlib.Core.Bool.{true}
 use mathlib.Core.List.{List}
 use mathlib.Core.Logic.{◌⊎◌, inl, inr, ⊎_elim}
-use Prim.Native.Nat.{ℕ, ◌+◌, ◌≤◌, ◌<◌}
+use Prim.Native.Nat.{ℕ, ◌≤◌, ◌<◌}
 use native.Mathlib.Omega.{arith}
 use borrow.Author.Tests.{eqb-true, eqb-false}
 use lib.Dec.{eqb}
 use lib.ListN.{length}
-use Rattle.rule_runs.specs.Runs.{Program, Run, AtCommit, Broken, Opened, Verdict, Verdict.violated, Verdict.undecided, Verdict.holds, Judges}
-use Rattle.rule_runs.specs.Summaries.{Ever}
+use Rattle.rule_runs.specs.Runs.{Program, AtCommit, Broken, Verdict.violated, Verdict.undecided, Verdict.holds, Judges}
 use Rattle.rule_runs.proofs.Exact.{ever_decides}
 use Rattle.rule_runs.proofs.Tests.{by_test, either_way}
-use Rattle.rule_places.specs.Coded.{Inside, program_of}
-use Rattle.rule_verdict.specs.Verdicts.{Breaks, Violated, Undecided, Holds, Answers, HOLDS, VIOLATED, UNDECIDED, Room, Rules}
+use Rattle.rule_places.specs.Coded.{Inside}
+use Rattle.rule_verdict.specs.Verdicts.{Breaks, Answers, HOLDS, VIOLATED, UNDECIDED, Room, Rules}
 use Rattle.rule_verdict.specs.declared.Judged.{Judged}
 use Rattle.rule_verdict.proofs.Ways.{along_walks}
 use Rattle.rule_verdict.proofs.judge.Reads as judge

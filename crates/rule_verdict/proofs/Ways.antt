@@ -1,13 +1,13 @@
 -- Ways, and what is measured of them. Assumes nothing.
-use mathlib.Core.Path.{◌≡◌, refl, sym, ap, ◌∙◌}
-use mathlib.Core.Bool.{Bool, true, false}
+use mathlib.Core.Path.{◌≡◌, refl, ap, ◌∙◌}
+use mathlib.Core.Bool.{Bool, true}
 use mathlib.Core.List.{List}
-use mathlib.Core.Logic.{◌⊎◌, inl, inr, ⊎_elim}
-use Prim.Native.Nat.{ℕ, zero, suc, ◌+◌, ◌*◌, ◌/◌, ◌-◌, ◌≤◌, ◌<◌}
+use mathlib.Core.Logic.{⊎_elim}
+use Prim.Native.Nat.{ℕ, zero, suc, ◌+◌, ◌/◌, ◌-◌, ◌≤◌, ◌<◌}
 use native.Mathlib.Omega.{arith}
 use lib.ListN.{length, get_or}
-use Rattle.rule_runs.specs.Runs.{Program, Run, Reaches}
-use Rattle.rule_runs.specs.Summaries.{Way, Way.here, Way.on, Summary, Flow, Ever, Walks, Within, Settled}
+use Rattle.rule_runs.specs.Runs.{Program, Run}
+use Rattle.rule_runs.specs.Summaries.{Way, Way.here, Way.on, Summary, Flow, Ever, Walks, Settled}
 use Rattle.rule_runs.proofs.Exact.{flow_more, settled, ever_decides}
 use Rattle.rule_search.specs.Search.{node, dirty_at, StepTo, StartAt, far, dst, Measured}
 use Rattle.rule_search.proofs.Nodes.{half_node, dirty_node}
