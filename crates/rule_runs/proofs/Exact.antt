@@ -1,34 +1,12 @@
 -- Runs with a stack and summaries agree. Assumes nothing.
-use mathlib.Core.Path.{◌≡◌, refl, sym}
+use mathlib.Core.Path.{◌≡◌, refl}
 use mathlib.Core.Bool.{Bool, true}
 use mathlib.Core.List.{List, [], ◌∷◌}
-use mathlib.Core.Logic.{◌⊎◌, inl, inr, ⊎_elim, ◌↔◌}
+use mathlib.Core.Logic.{inl, inr, ⊎_elim, ◌↔◌}
 use Prim.Native.Nat.{ℕ, zero, suc, ◌+◌, ◌≤◌, ◌<◌}
 use native.Mathlib.Omega.{arith}
-use Rattle.rule_runs.specs.Runs.{Program, Run, Run.starts, Run.step, Run.call, Run.return, Reaches, AtCommit, Broken}
-use Rattle.rule_runs.specs.Summaries.{
-  Steps,
-  Way,
-  Way.here,
-  Way.on,
-  Summary,
-  Over,
-  Same,
-  Flow,
-  Back,
-  Ret,
-  Ever,
-  Walks,
-  Finds,
-  Within,
-  Met,
-  Once,
-  Once.ends,
-  Once.onward,
-  Once.over,
-  OncePast,
-  Settled,
-}
+use Rattle.rule_runs.specs.Runs.{Program, Run, Run.starts, Run.step, Run.call, Run.return, Reaches}
+use Rattle.rule_runs.specs.Summaries.{Steps, Way, Way.here, Way.on, Summary, Same, Flow, Back, Ret, Ever, Walks, Finds, Within, Met, Once.ends, Once.onward, Once.over, OncePast, Settled}
 use Rattle.rule_runs.proofs.Tests.{either_way}
 
 -- chains
