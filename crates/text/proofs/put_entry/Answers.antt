@@ -1,5 +1,4 @@
 -- `text::put_entry` meets its contract. Assumes nothing.
-use borrow.Author.Rules.{rules}
 use mathlib.Core.Path.{◌≡◌, sym, ap, ◌∙◌}
 use mathlib.Core.List.{List, []}
 use Prim.Native.Nat.{ℕ, ◌+◌, ◌-◌, ◌*◌, ◌≤◌}
@@ -9,7 +8,7 @@ use lib.ListN.{length, take, drop, length-drop, drop_of_length-le}
 use lib.Seq.{take-nil, take_all}
 use Rattle.text.specs.Entry.{word_of, entry_of}
 use Rattle.text.proofs.Writing.{none}
-use Rattle.text.proofs.put_entry as f
+use Rattle.text.proofs.put_entry.Goals as goal
 
 -- the three places of an entry: beyond the table, within it, and cut short by its end
 module _ (table : List ℕ) (width n : ℕ) where
@@ -28,19 +27,19 @@ module _ (table : List ℕ) (width n : ℕ) where
       (take_all width (drop start table) (rw length-drop h)
       ∙ sym (take_all (length table - start) (drop start table) (rw length-drop (omega arith))))
 
-put_word_requires_2 : f.Tie.Need-put-word-requires-2
-put_word_requires_2 c κs =
-    let start = c.before.before.before.before.before.before in
-    rw (short start.args.table.now start.args.width start.args.n (omega arith)) at start.requires.1
+pub returns-then-table-start : goal.returns-then-table-start
+returns-then-table-start c = rw (beyond _ _ _ c.if-table-start.true) (none _ _)
 
-returns_3 : f.Tie.Need-returns-3
-returns_3 c =
-    let start = c.before.before.before.before.before.before.before.before.before in
-    rw (short start.args.table.now start.args.width start.args.n (omega arith)) c.before.before.put-word2.ensures
+pub put_word-requires : goal.put_word-requires
+put_word-requires c = rw (whole _ _ _) at c.requires.room
 
-pub put_entry_spec : {M : Type 1} → f.Statement.statement M
-put_entry_spec =
-    f.Tie.close (f.Tie.spec (search rules) (λ c. rw (beyond _ _ _ c.if1.true) (none _ _)) (search rules) (search rules) (search rules)
-    (search rules) (search rules) (λ c κs. rw (whole _ _ _) at c.before.before.before.before.before.before.requires.1) (search rules)
-    (search rules) (search rules) put_word_requires_2 (λ c. search rules) (λ c. rw (whole _ _ _) c.before.before.put_word.ensures)
-    (λ c. search rules) returns_3)
+pub put_word-requires-else-width-table : goal.put_word-requires-else-width-table
+put_word-requires-else-width-table c =
+    rw (short c.args.table.now c.args.width c.args.n (omega arith)) at c.requires.room
+
+pub returns-then-width-table : goal.returns-then-width-table
+returns-then-width-table c = rw (whole _ _ _) c.put_word.ensures
+
+pub returns-else-width-table : goal.returns-else-width-table
+returns-else-width-table c =
+    rw (short c.args.table.now c.args.width c.args.n (omega arith)) c.put_word-else-width-table.ensures

@@ -1,0 +1,28 @@
+-- `text::put_hex` meets its contract. The loop's invariant: the digits above the lowest `left` are written. Assumes nothing.
+use mathlib.Core.Path.{refl, ◌∙◌}
+use Prim.Native.Nat.{◌-◌, ◌*◌, ◌/◌, ◌^◌}
+use native.Mathlib.Nat.{sub_self}
+use native.Mathlib.Omega.{arith}
+use Rattle.text.specs.Text.{hex_of}
+use Rattle.text.proofs.Writing.{none, ◌then◌}
+use Rattle.text.proofs.Digits.{hex_size, hex_more}
+use Rattle.text.proofs.put_hex.Goals as goal
+
+pub loop-left-init : goal.loop-left-init
+loop-left-init c = unfold hex_of in (omega arith, refl, rw (sub_self c.args.digits) (none _ _))
+
+pub put_byte-at-requires : goal.put_byte-at-requires
+put_byte-at-requires c =
+    let now = c.loop-left in
+    let given = c.args in
+    omega (arith, hex_size (given.digits - now.left) (given.n / 2 ^ (4 * now.left)), hex_size given.digits given.n)
+
+pub loop-left-preserved : goal.loop-left-preserved
+loop-left-preserved c =
+    let now = c.loop-left in
+    let given = c.args in (
+      omega arith,
+      c.put_byte-at.auto.out ∙ now.invariant.1,
+      rw (hex_more given.digits given.n now.left (omega arith) (omega arith), ← c.hex_digit.ensures)
+          (now.invariant.2 then c.put_byte-at.ensures),
+    )
