@@ -8,7 +8,7 @@ use native.Mathlib.Omega.{arith}
 use borrow.Author.Tests.{eqb-true, eqb-false, eq-eqb, ne_eqb}
 use lib.Dec.{eqb}
 use lib.ListN.{length}
-use Rattle.word.specs.Choice.{pick, by_test}
+use Rattle.word.specs.Choice.{by_test}
 use Rattle.section.specs.Section.{half_at, version_of, base_of, range_count, start_of, refusal_of, places_of}
 use Rattle.section.proofs.Accepted.{accepted, start_least}
 use Rattle.section_convert.specs.Convert.{number_of, own_of, converted_of, conversion_refusal}
