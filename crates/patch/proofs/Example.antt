@@ -1,6 +1,6 @@
 -- Runs of a section of four words with a patch over the third, at every border; and pairs that fail one check or several. Assumes nothing.
 use mathlib.Core.Path.{◌≡◌, refl}
-use mathlib.Core.List.{List, [], ◌∷◌, map}
+use mathlib.Core.List.{[], ◌∷◌, map}
 use Prim.Native.Nat.{ℕ}
 use lib.ListN.{replicate}
 use Rattle.section.specs.Section.{refusal_of}
