@@ -51,7 +51,7 @@ module _ (w : ℕ) (bound : w < 2 ^ 32) (group : field w 25 3 ≡ 0) (seven : fi
     still_post : unprivileged_of (put w 8 4 0) ≡ false
     still_post = unfold unprivileged_of in simp apart post
 
-    ruleset index-rules = (apart, still_post, plus, still_plus, has_p, mode_w)
+    ruleset index_rules = (apart, still_post, plus, still_plus, has_p, mode_w)
 
     indexed_word : {kind load : ℕ} → field w 5 2 ≡ kind → field w 20 1 ≡ load
         → join extra_layout (field w 0 4 ∷ 1 ∷ kind ∷ 1 ∷ 0 ∷ field w 12 4 ∷ field w 16 4 ∷ load ∷ field w 21 1 ∷ 0 ∷ 1 ∷ field w 24 1 ∷ 0 ∷
@@ -63,18 +63,18 @@ module _ (w : ℕ) (bound : w < 2 ^ 32) (group : field w 25 3 ≡ 0) (seven : fi
         two_cases w 5
         (λ k. absurd (true≢false (simp k at other)))
         (λ k. bit_cases w 20
-        (λ l. settles (zeros 11 8 ∷ []) tt (simp (index-rules, post, i, k, l) (λ addr. ((λ c. refl), (refl, refl, indexed_word k l)))))
-        (λ l. settles (zeros 11 8 ∷ []) tt (simp (index-rules, post, i, k, l) (λ addr. ((λ c. refl), (refl, refl, indexed_word k l))))))
+        (λ l. settles (zeros 11 8 ∷ []) tt (simp (index_rules, post, i, k, l) (λ addr. ((λ c. refl), (refl, refl, indexed_word k l)))))
+        (λ l. settles (zeros 11 8 ∷ []) tt (simp (index_rules, post, i, k, l) (λ addr. ((λ c. refl), (refl, refl, indexed_word k l))))))
         (λ k. bit_cases w 20
         (λ l. by_test (eqb (field w 12 4 % 2) 1)
         (λ odd. refuses (λ addr ok. refusal (simp (post, plus, k, l, odd) at ok)))
-        (λ even. settles (zeros 11 8 ∷ []) tt (simp (index-rules, post, i, k, l, even) (λ addr. ((λ c. refl), (refl, refl, indexed_word k l))))))
-        (λ l. settles (zeros 11 8 ∷ []) tt (simp (index-rules, post, i, k, l) (λ addr. ((λ c. refl), (refl, refl, indexed_word k l))))))
+        (λ even. settles (zeros 11 8 ∷ []) tt (simp (index_rules, post, i, k, l, even) (λ addr. ((λ c. refl), (refl, refl, indexed_word k l))))))
+        (λ l. settles (zeros 11 8 ∷ []) tt (simp (index_rules, post, i, k, l) (λ addr. ((λ c. refl), (refl, refl, indexed_word k l))))))
         (λ k. bit_cases w 20
         (λ l. by_test (eqb (field w 12 4 % 2) 1)
         (λ odd. refuses (λ addr ok. refusal (simp (post, plus, k, l, odd) at ok)))
-        (λ even. settles (zeros 11 8 ∷ []) tt (simp (index-rules, post, i, k, l, even) (λ addr. ((λ c. refl), (refl, refl, indexed_word k l))))))
-        (λ l. settles (zeros 11 8 ∷ []) tt (simp (index-rules, post, i, k, l) (λ addr. ((λ c. refl), (refl, refl, indexed_word k l))))))
+        (λ even. settles (zeros 11 8 ∷ []) tt (simp (index_rules, post, i, k, l, even) (λ addr. ((λ c. refl), (refl, refl, indexed_word k l))))))
+        (λ l. settles (zeros 11 8 ∷ []) tt (simp (index_rules, post, i, k, l) (λ addr. ((λ c. refl), (refl, refl, indexed_word k l))))))
 
   module _ (i : field w 22 1 ≡ 1) where
     no_index : subtracted_index_of w ≡ false
@@ -86,7 +86,7 @@ module _ (w : ℕ) (bound : w < 2 ^ 32) (group : field w 25 3 ≡ 0) (seven : fi
     low_digit : imm8 w % 16 ≡ field w 0 4
     low_digit = lower w 8 4 0 4
 
-    ruleset displacement-rules = (no_index, has_p, mode_w, has_u, magnitude_back, high_digit, low_digit)
+    ruleset displacement_rules = (no_index, has_p, mode_w, has_u, magnitude_back, high_digit, low_digit)
 
     displaced_word : {kind load : ℕ} → field w 5 2 ≡ kind → field w 20 1 ≡ load
         → join extra_layout (field w 0 4 ∷ 1 ∷ kind ∷ 1 ∷ field w 8 4 ∷ field w 12 4 ∷ field w 16 4 ∷ load ∷ field w 21 1 ∷ 1 ∷ field w 23 1 ∷
@@ -98,18 +98,18 @@ module _ (w : ℕ) (bound : w < 2 ^ 32) (group : field w 25 3 ≡ 0) (seven : fi
         two_cases w 5
         (λ k. absurd (true≢false (simp k at other)))
         (λ k. bit_cases w 20
-        (λ l. reads (simp (displacement-rules, post, i, k, l) (λ addr. (refl, refl, displaced_word k l))))
-        (λ l. reads (simp (displacement-rules, post, i, k, l) (λ addr. (refl, refl, displaced_word k l)))))
+        (λ l. reads (simp (displacement_rules, post, i, k, l) (λ addr. (refl, refl, displaced_word k l))))
+        (λ l. reads (simp (displacement_rules, post, i, k, l) (λ addr. (refl, refl, displaced_word k l)))))
         (λ k. bit_cases w 20
         (λ l. by_test (eqb (field w 12 4 % 2) 1)
         (λ odd. refuses (λ addr ok. refusal (simp (post, no_index, k, l, odd) at ok)))
-        (λ even. reads (simp (displacement-rules, post, i, k, l, even) (λ addr. (refl, refl, displaced_word k l)))))
-        (λ l. reads (simp (displacement-rules, post, i, k, l) (λ addr. (refl, refl, displaced_word k l)))))
+        (λ even. reads (simp (displacement_rules, post, i, k, l, even) (λ addr. (refl, refl, displaced_word k l)))))
+        (λ l. reads (simp (displacement_rules, post, i, k, l) (λ addr. (refl, refl, displaced_word k l)))))
         (λ k. bit_cases w 20
         (λ l. by_test (eqb (field w 12 4 % 2) 1)
         (λ odd. refuses (λ addr ok. refusal (simp (post, no_index, k, l, odd) at ok)))
-        (λ even. reads (simp (displacement-rules, post, i, k, l, even) (λ addr. (refl, refl, displaced_word k l)))))
-        (λ l. reads (simp (displacement-rules, post, i, k, l) (λ addr. (refl, refl, displaced_word k l)))))
+        (λ even. reads (simp (displacement_rules, post, i, k, l, even) (λ addr. (refl, refl, displaced_word k l)))))
+        (λ l. reads (simp (displacement_rules, post, i, k, l) (λ addr. (refl, refl, displaced_word k l)))))
 
 minus_index : (w : ℕ) → field w 22 1 ≡ 0 → field w 23 1 ≡ 0 → subtracted_index_of w ≡ true
 minus_index w i u = unfold subtracted_index_of in simp (i, u)

@@ -333,10 +333,10 @@ pub ruleset tops = (
 -- the same by 24:23, 22:21 and bit 20
 pub ruleset controls = (control_20_5, control_22, control_21)
 
-pub ruleset rn-bits = (rn_17, rn_16)
+pub ruleset rn_bits = (rn_17, rn_16)
 
 -- with 24:20 left open, a cell's bit is a bit of the word
-pub ruleset op-bits = (← op_24, ← op_23, ← op_22, ← op_21, ← op_20)
+pub ruleset op_bits = (← op_24, ← op_23, ← op_22, ← op_21, ← op_20)
 
 -- with 7:4 left open, a cell's bit is a bit of the word
 pub ruleset low_bits = (← low_4, ← low_5, ← low_6, ← low_7)
@@ -350,14 +350,14 @@ pub ruleset highs = (high_5_2, high_6, high_4_2)
 pub ruleset high_bits_lem = (high_6_bit, high_5_bit)
 
 -- by bits 25 and 24
-pub ruleset six-bits = (six_25, six_24)
+pub ruleset six_bits = (six_25, six_24)
 
-pub ruleset all-six = (six_25, six_24, six_23, six_22, six_21, six_20)
+pub ruleset all_six = (six_25, six_24, six_23, six_22, six_21, six_20)
 
 -- by 27:25 and single bits
-pub ruleset eight-bits = (eight_is_196, eight_is_197, eight_27, eight_26, eight_25, eight_24, eight_23, eight_22, eight_21, eight_20)
+pub ruleset eight_bits = (eight_is_196, eight_is_197, eight_27, eight_26, eight_25, eight_24, eight_23, eight_22, eight_21, eight_20)
 
-pub ruleset seven-bits = (seven_is_16, seven_is_83, seven_is_87, seven_is_127, seven_26, seven_25, seven_24, seven_23, seven_22, seven_21, seven_20)
+pub ruleset seven_bits = (seven_is_16, seven_is_83, seven_is_87, seven_is_127, seven_26, seven_25, seven_24, seven_23, seven_22, seven_21, seven_20)
 
 pub ruleset groups = (group_25, group_26_2, both_20_8, both_20_7, both_20_6, both_24_4)
 
