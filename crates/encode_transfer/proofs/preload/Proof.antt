@@ -1,6 +1,0 @@
--- `transfer_words::preload` meets its contract. Assumes nothing.
-use borrow.Author.Tests.{ne_eqb}
-use Rattle.encode_transfer.proofs.preload as f
-
-pub preload_spec : {M : Type 1} → f.Statement.statement M
-preload_spec = f.Tie.close (f.Tie.spec (λ c. simp c.if1.taken) (λ c. simp (ne_eqb _ _ c.if1.left)))
