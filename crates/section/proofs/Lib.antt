@@ -9,4 +9,5 @@ pub mod Reading
 pub mod Front
 pub mod Replaced
 pub mod Example
+pub mod Taken
 pub mod Unique
