@@ -1,6 +1,0 @@
--- `callers_index::hits` meets its contract. Assumes nothing.
-use borrow.Author.Tests.{eq-eqb, ne_eqb}
-use Rattle.callers_index.proofs.hits as f
-
-pub hits_spec : {M : Type 1} → f.Statement.statement M
-hits_spec = f.Tie.close (f.Tie.spec (λ c. simp (eq-eqb _ _ c.if1.taken)) (λ c. simp (ne_eqb _ _ c.if1.left)))
