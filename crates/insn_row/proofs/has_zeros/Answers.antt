@@ -1,5 +1,4 @@
 -- `row::has_zeros` meets its contract: of numbers that are zeros, and of those alone, the bits together are zero. Assumes nothing.
-use borrow.Author.Rules.{rules}
 use mathlib.Core.Path.{◌≡◌, refl, ap, ap₂, ◌∙◌}
 use mathlib.Core.List.{List, [], ◌∷◌, ◌++◌}
 use Prim.Native.Nat.{ℕ, zero, suc, ◌+◌}
@@ -12,7 +11,7 @@ use Rattle.word.specs.Choice.{both}
 use Rattle.insn_same.proofs.Tests.{failed, last}
 use Rattle.insn_row.specs.Row.{holds}
 use Rattle.insn_row.proofs.Holds.{in_parts}
-use Rattle.insn_row.proofs.has_zeros as f
+use Rattle.insn_row.proofs.has_zeros.Goals as goal
 
 no_bits : (a b : ℕ) → eqb (bit_or a b) 0 ≡ both (eqb a 0) (eqb b 0)
 no_bits zero b = refl
@@ -33,16 +32,8 @@ infixl 20 ◌with◌
   none = no_bits a b ∙ ap₂ both first.none (ap (λ (n : ℕ). eqb n 0) is ∙ last _) ∙ in_parts row p xs (0 ∷ []);
 }
 
-returns : f.Tie.Need-returns
+pub returns : goal.returns
 returns c =
-    let start = c.before.before.before.before.before.before.before.before.before in
     record {
-      is = (one start.args.row.now start.args.at with refl with refl with refl with refl with refl with refl with refl with refl).none;
+      is = (one c.args.row.now c.args.at with refl with refl with refl with refl with refl with refl with refl with refl).none;
     }
-
-pub has_zeros_spec : {M : Type 1} → f.Statement.statement M
-has_zeros_spec =
-    f.Tie.close (f.Tie.spec (search rules) (search rules) (search rules) (search rules) (search rules) (search rules) (search rules) (search rules)
-    (search rules) (search rules) (search rules) (search rules) (search rules) (search rules) (search rules) (search rules) (search rules)
-    (search rules) (search rules) (search rules) (search rules) (search rules) (search rules) (search rules) (search rules) (search rules)
-    returns)

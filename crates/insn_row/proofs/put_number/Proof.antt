@@ -1,8 +1,0 @@
--- `row::put_number` meets its contract. Assumes nothing.
-use borrow.Author.Rules.{rules}
-use native.Mathlib.Omega.{arith}
-use Rattle.text.proofs.Writing.{byte}
-use Rattle.insn_row.proofs.put_number as f
-
-pub put_number_spec : {M : Type 1} → f.Statement.statement M
-put_number_spec = f.Tie.close (f.Tie.spec (search rules) (search rules) (search rules) (λ c. search rules) (λ c. byte _ _ _ (omega arith)))

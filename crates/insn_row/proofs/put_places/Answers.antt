@@ -1,0 +1,34 @@
+-- `row::put_places` meets its contract. The loop's invariant: the places passed are written. Assumes nothing.
+use mathlib.Core.Path.{◌≡◌, refl, ◌∙◌}
+use Prim.Native.Nat.{◌-◌, ◌≤◌}
+use native.Mathlib.Omega.{arith}
+use lib.ListN.{length, take, length-map}
+use Rattle.insn.specs.Answer.{PLACES}
+use Rattle.insn.proofs.Places.{one_more, one_fits}
+use Rattle.text.specs.Put.{Put}
+use Rattle.text.proofs.Writing.{none, ◌then◌}
+use Rattle.insn_row.specs.Row.{operand_row, places_row}
+use Rattle.insn_row.proofs.put_places.Goals as goal
+
+pub loop-n-init : goal.loop-n-init
+loop-n-init c = (omega arith, refl, none _ _)
+
+pub put_operand-at-requires : goal.put_operand-at-requires
+put_operand-at-requires c =
+    let loop = c.loop-n in
+    omega (
+      arith,
+      c.requires,
+      loop.invariant.1,
+      loop.invariant.2.ends,
+      one_fits operand_row c.args.i.ops loop.n (omega arith),
+    )
+
+pub loop-n-preserved : goal.loop-n-preserved
+loop-n-preserved c =
+    let loop = c.loop-n in
+    let put = c.put_operand-at in (
+      omega arith,
+      put.auto.out ∙ loop.invariant.1,
+      rw (one_more operand_row c.args.i.ops loop.n (omega arith)) (loop.invariant.2 then put.ensures),
+    )

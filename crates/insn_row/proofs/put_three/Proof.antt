@@ -1,9 +1,0 @@
--- `row::put_three` meets its contract. Assumes nothing.
-use borrow.Author.Rules.{rules}
-use Rattle.text.proofs.Writing.{◌then◌}
-use Rattle.insn_row.proofs.put_three as f
-
-pub put_three_spec : {M : Type 1} → f.Statement.statement M
-put_three_spec =
-    f.Tie.close (f.Tie.spec (search rules) (search rules) (λ c. search rules)
-    (λ c. c.before.before.before.before.before.before.put_two.ensures then c.before.before.put-number.ensures))

@@ -1,9 +1,0 @@
--- `row::put_two` meets its contract. Assumes nothing.
-use borrow.Author.Rules.{rules}
-use Rattle.text.proofs.Writing.{◌then◌}
-use Rattle.insn_row.proofs.put_two as f
-
-pub put_two_spec : {M : Type 1} → f.Statement.statement M
-put_two_spec =
-    f.Tie.close (f.Tie.spec (search rules) (search rules) (λ c. search rules)
-    (λ c. c.before.before.before.before.before.before.put-number.ensures then c.before.before.put-number2.ensures))
