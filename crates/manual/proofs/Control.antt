@@ -1,13 +1,12 @@
 -- Multiplies, exclusives, halfword multiplies and the miscellaneous instructions beside the manual. Assumes nothing.
-use mathlib.Core.Path.{◌≡◌, refl, ap, sym}
-use mathlib.Core.Bool.{true, false}
-use Prim.Native.Nat.{ℕ, ◌*◌, ◌+◌}
+use mathlib.Core.Path.{◌≡◌, refl}
+use mathlib.Core.Bool.{false}
+use Prim.Native.Nat.{ℕ, ◌+◌}
 use native.Mathlib.Omega.{arith}
 use borrow.Author.Tests.{eqb-true}
 use lib.Dec.{eqb}
 use Rattle.word.specs.Field.{field}
 use Rattle.insn.specs.Roots.{name}
-use Rattle.insn.specs.declared.Decoded.{Decoded}
 use Rattle.a32_multiply.specs.Halfword.{half_of, halves_of}
 use Rattle.a32.specs.Decode as D
 use Rattle.a32.specs.Decode.{decode_of, group_of, dp_misc_of, control_of}

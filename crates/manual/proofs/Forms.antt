@@ -1,5 +1,4 @@
 -- Numbers by which two answers are told apart: a flow, and what an operand's memory form has. Assumes nothing.
-use mathlib.Core.Bool.{Bool}
 use Prim.Native.Nat.{ℕ}
 use lib.IntN.{pos}
 use lib.ListN.{get_or}

@@ -1,7 +1,7 @@
 -- The manual's shifts and constants are 01's. Assumes nothing.
-use mathlib.Core.Path.{◌≡◌, refl}
-use mathlib.Core.Bool.{Bool, true, false}
-use Prim.Native.Nat.{ℕ, ◌*◌, ◌/◌, ◌%◌, ◌^◌, ◌<◌}
+use mathlib.Core.Path.{◌≡◌}
+use mathlib.Core.Bool.{Bool}
+use Prim.Native.Nat.{ℕ, ◌/◌, ◌%◌, ◌^◌, ◌<◌}
 use lib.Dec.{eqb, eqb→eq}
 use Rattle.word.specs.Every.{at_each}
 use Rattle.word.specs.Field.{field, small}

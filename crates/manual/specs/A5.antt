@@ -1,8 +1,8 @@
 -- DDI 0406C, chapter A5: the tables that lead from a word's bits to a row, in the manual's names. A cell that a table leaves empty is any.
-use Rattle.std.specs.Prelude.{List, [], ◌∷◌, ℕ}
+use Rattle.std.specs.Prelude.{[], ◌∷◌, ℕ}
 use Prim.Native.String.{String}
 use Rattle.word.specs.Field.{field}
-use Rattle.manual.specs.Pattern.{Cell, is, isnt, any, ◌⇒◌, table_of}
+use Rattle.manual.specs.Pattern.{is, isnt, any, ◌⇒◌, table_of}
 
 -- A5.4.1, table A5-17: op1 21:20, op2 7:5
 unfoldable pub parallel_signed : ℕ → String

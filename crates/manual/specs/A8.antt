@@ -10,7 +10,7 @@ use Rattle.word.specs.Field.{field}
 use Rattle.insn.specs.Answer.{insn_of, places, accepted}
 use Rattle.insn.specs.Roots.{name}
 use Rattle.insn.specs.declared.AddrMode.{AddrMode}
-use Rattle.insn.specs.declared.AddrMode.TheVariants.{Offset, PostIndex}
+use Rattle.insn.specs.declared.AddrMode.TheVariants.{Offset}
 use Rattle.insn.specs.declared.Decoded.{Decoded}
 use Rattle.insn.specs.declared.Index.TheVariants.{Absent}
 use Rattle.insn.specs.declared.Flow.{Flow}
@@ -21,7 +21,7 @@ use Rattle.insn.specs.declared.Operand.TheVariants.{Coprocessor, CoprocessorRegi
 use Rattle.insn.specs.declared.Operand.TheVariants as Op
 use Rattle.insn.specs.declared.Status.TheVariants.{Apsr, Spsr}
 use Rattle.manual.specs.A5.{table_row}
-use Rattle.manual.specs.Reads.{is_set, R, setflags, half, halves, writes_pc, branches_to, DecodeImmShift, shifted, register_shifted, shift_count}
+use Rattle.manual.specs.Reads.{is_set, R, setflags, half, halves, writes_pc, branches_to, shifted, register_shifted, shift_count}
 use Rattle.manual.specs.Reads.{constant, SignExtend, addressing, offset, is_minus_zero, memory, is_post, indexed, saturate_shift, rotation}
 
 abbrev pub is_among : String → List String → Bool

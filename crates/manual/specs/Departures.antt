@@ -14,7 +14,7 @@ use Rattle.insn.specs.declared.Index.TheVariants.{Absent}
 use Rattle.insn.specs.declared.Flow.{Flow}
 use Rattle.insn.specs.declared.Flow.TheVariants.{Next, IndirectBranch}
 use Rattle.manual.specs.A8.{is_among, other_page_of, Said, reads, beyond, names, unlisted, undefined, unpredictable, Page, said_among, said_of}
-use Rattle.manual.specs.A8.{reading_as, reading, transfers, immediate, with_index, unprivileged, extra, one, pair, cp, CR, imm8_words, register_move}
+use Rattle.manual.specs.A8.{reading_as, reading, transfers, immediate, with_index, extra, one, pair, cp, CR, imm8_words, register_move}
 use Rattle.manual.specs.A8.{◌:=◌}
 use Rattle.manual.specs.Reads.{is_set, writes_pc, addressing, offset, is_minus_zero, memory}
 
