@@ -3,7 +3,6 @@ use mathlib.Core.Path.{◌≡◌}
 use mathlib.Core.Bool.{Bool, true}
 use mathlib.Core.List.{List, [], ◌∷◌}
 use Prim.Native.Nat.{ℕ, ◌*◌, ◌^◌}
-use borrow.Author.Rules.{rules}
 use borrow.Author.Tests.{eqb-true, eq-eqb}
 use lib.Dec.{eqb}
 use Rattle.word.specs.Field.{field}
@@ -11,7 +10,7 @@ use Rattle.manual.specs.A5 as A5
 use Rattle.manual_tables.specs.Titles.{number_of}
 use Rattle.manual_tables.proofs.Place.{Column, bits, Same, then, looked_where}
 use Rattle.manual_tables.proofs.Parts.{rn_0}
-use Rattle.manual_tables.proofs.state as f
+use Rattle.manual_tables.proofs.state.Goals as goal
 
 abbrev columns : List Column
 columns = bits 4 4 ∷ bits 16 1 ∷ []
@@ -23,12 +22,9 @@ depends : (w w' : ℕ) → asked w ≡ true → asked w' ≡ true → Same colum
 unfolding A5.hints_and_simd
 depends w w' g g' (a, (b, end)) = simp (eqb-true (field w 20 7) 16 g, eqb-true (field w' 20 7) 16 g', a, rn_0, b)
 
-returns : f.Tie.Need-returns
+pub returns : goal.returns
 unfolding field number_of A5.hints_and_simd
 returns c =
-    looked_where A5.hints_and_simd asked (16 * 2 ^ 20) columns 242 depends tt c.before.before.before.args.w
-    (eq-eqb _ _ c.before.before.before.requires) (then 2 c.before.before.column.ensures.0 c.before.column2.ensures.0)
+    looked_where A5.hints_and_simd asked (16 * 2 ^ 20) columns 242 depends tt c.args.w
+    (eq-eqb _ _ c.requires) (then 2 c.column.ensures.0 c.column-2.ensures.0)
     c.title.ensures
-
-pub state_spec : {M : Type 1} → f.Statement.statement M
-state_spec = f.Tie.close (f.Tie.spec (search rules) (search rules) (search rules) (search rules) (search rules) (search rules) (search rules) returns)

@@ -4,7 +4,6 @@ use mathlib.Core.Bool.{Bool, true}
 use mathlib.Core.List.{List, [], ◌∷◌}
 use Prim.Native.Nat.{ℕ, ◌+◌, ◌/◌, ◌%◌, ◌^◌}
 use native.Mathlib.Omega.{arith}
-use borrow.Author.Rules.{rules}
 use borrow.Author.Tests.{eqb-true, eq-eqb}
 use lib.Dec.{eqb}
 use Rattle.word.specs.Field.{field, small}
@@ -12,7 +11,7 @@ use Rattle.manual.specs.A5 as A5
 use Rattle.manual_tables.specs.Titles.{number_of}
 use Rattle.manual_tables.proofs.Place.{Column, bits, Same, then, looked_where}
 use Rattle.manual_tables.proofs.Parts.{unconditional_op1}
-use Rattle.manual_tables.proofs.unconditional_upper as f
+use Rattle.manual_tables.proofs.unconditional_upper.Goals as goal
 
 abbrev columns : List Column
 columns = bits 20 7 ∷ bits 4 1 ∷ []
@@ -27,13 +26,9 @@ depends : (w w' : ℕ) → asked w ≡ true → asked w' ≡ true → Same colum
 unfolding A5.unconditional
 depends w w' g g' (a, (b, end)) = simp (unconditional_op1, eqb-true (field w 27 1) 1 g, eqb-true (field w' 27 1) 1 g', a, b, upper w')
 
-returns : f.Tie.Need-returns
+pub returns : goal.returns
 unfolding field number_of A5.unconditional
 returns c =
-    looked_where A5.unconditional asked (2 ^ 27) columns 258 depends tt c.before.before.before.args.w
-    (eq-eqb _ _ c.before.before.before.requires) (then 2 c.before.before.column.ensures.0 c.before.column2.ensures.0)
+    looked_where A5.unconditional asked (2 ^ 27) columns 258 depends tt c.args.w
+    (eq-eqb _ _ c.requires) (then 2 c.column.ensures.0 c.column-2.ensures.0)
     c.title.ensures
-
-pub unconditional_upper_spec : {M : Type 1} → f.Statement.statement M
-unconditional_upper_spec =
-    f.Tie.close (f.Tie.spec (search rules) (search rules) (search rules) (search rules) (search rules) (search rules) (search rules) returns)

@@ -4,7 +4,6 @@ use mathlib.Core.Bool.{Bool, true}
 use mathlib.Core.List.{List, [], ◌∷◌}
 use Prim.Native.Nat.{ℕ, ◌^◌}
 use Prim.Native.String.{String}
-use borrow.Author.Rules.{rules}
 use borrow.Author.Tests.{eqb-true, eq-eqb}
 use lib.Dec.{eqb}
 use Rattle.word.specs.Choice.{pick, by_test}
@@ -14,7 +13,7 @@ use Rattle.manual.specs.Pattern.{like}
 use Rattle.manual_tables.specs.Titles.{number_of}
 use Rattle.manual_tables.proofs.Place.{Column, bits, is, Same, then, looked_where}
 use Rattle.manual_tables.proofs.Parts.{kept}
-use Rattle.manual_tables.proofs.immediate as f
+use Rattle.manual_tables.proofs.immediate.Goals as goal
 
 abbrev columns : List Column
 columns = bits 20 5 ∷ is 16 4 15 ∷ []
@@ -30,13 +29,9 @@ unfolding A5.data_processing A5.data_processing_immediate
 depends w w' g g' (a, (b, end)) =
     by_test (like (field w' 20 5) "10x10") (λ e. simp (a, e)) (λ e. simp (a, b, e, eqb-true (field w 25 1) 1 g, eqb-true (field w' 25 1) 1 g'))
 
-returns : f.Tie.Need-returns
+pub returns : goal.returns
 unfolding field number_of A5.data_processing A5.data_processing_immediate
 returns c =
-    kept (like (field c.before.before.before.args.w 20 5) "10x10") c.before.before.before.requires.1
-    (looked_where row asked (2 ^ 25) columns 42 depends tt c.before.before.before.args.w (eq-eqb _ _ c.before.before.before.requires.0)
-    (then 2 c.before.before.column.ensures.0 c.before.is.ensures.0) c.title.ensures)
-
-pub immediate_spec : {M : Type 1} → f.Statement.statement M
-immediate_spec =
-    f.Tie.close (f.Tie.spec (search rules) (search rules) (search rules) (search rules) (search rules) (search rules) (search rules) returns)
+    kept (like (field c.args.w 20 5) "10x10") c.requires.1
+    (looked_where row asked (2 ^ 25) columns 42 depends tt c.args.w (eq-eqb _ _ c.requires.0)
+    (then 2 c.column.ensures.0 c.is.ensures.0) c.title.ensures)

@@ -4,7 +4,6 @@ use mathlib.Core.Bool.{Bool, true}
 use mathlib.Core.List.{List, [], ◌∷◌}
 use Prim.Native.Nat.{ℕ}
 use Prim.Native.String.{String}
-use borrow.Author.Rules.{rules}
 use lib.Dec.{eqb}
 use Rattle.word.specs.Choice.{pick, by_test}
 use Rattle.word.specs.Field.{field}
@@ -12,8 +11,7 @@ use Rattle.manual.specs.A5 as A5
 use Rattle.manual_tables.specs.Titles.{number_of}
 use Rattle.manual_tables.proofs.Place.{Column, bits, is, Same, then, looked_where}
 use Rattle.manual_tables.proofs.Parts.{op2_4, either, neither, kept, pick_same}
-use Rattle.manual_tables.proofs.preload.Statement.{statement}
-use Rattle.manual_tables.proofs.preload.Tie as tie
+use Rattle.manual_tables.proofs.preload.Goals as goal
 
 abbrev columns : List Column
 columns = bits 20 7 ∷ bits 4 1 ∷ is 16 4 15 ∷ []
@@ -30,16 +28,11 @@ depends w w' g g' (a, (b, (d, end))) =
     by_test (eqb (field w' 20 7) 16) (λ e. simp (a, e)) (λ e. by_test (eqb (field w' 20 7) 87) (λ f. simp (a, e, f))
     (λ f. simp (a, op2_4, b, d, e, f, pick_same)))
 
-returns : tie.Need-returns
+pub returns : goal.returns
 unfolding field number_of A5.hints_and_simd
 returns c =
-    kept (either (eqb (field c.before.before.before.before.args.w 20 7) 16) (eqb (field
-    c.before.before.before.before.args.w 20 7) 87)) (neither c.before.before.before.before.requires.0
-    c.before.before.before.before.requires.1) (looked_where row asked (0) columns 242 depends tt c.before.before.before.before.args.w
-    (refl) (then 2 (then 2 c.before.before.before.column.ensures.0 c.before.before.column2.ensures.0) c.before.is.ensures.0)
+    kept (either (eqb (field c.args.w 20 7) 16) (eqb (field
+    c.args.w 20 7) 87)) (neither c.requires.0
+    c.requires.1) (looked_where row asked (0) columns 242 depends tt c.args.w
+    (refl) (then 2 (then 2 c.column.ensures.0 c.column-2.ensures.0) c.is.ensures.0)
     c.title.ensures)
-
-pub preload_spec : {M : Type 1} → statement M
-preload_spec =
-    tie.close (tie.spec (search rules) (search rules) (search rules) (search rules) (search rules)
-    (search rules) (search rules) (search rules) (search rules) (search rules) returns)

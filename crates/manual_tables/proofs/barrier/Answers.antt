@@ -3,14 +3,13 @@ use mathlib.Core.Path.{◌≡◌}
 use mathlib.Core.Bool.{Bool, true}
 use mathlib.Core.List.{List, [], ◌∷◌}
 use Prim.Native.Nat.{ℕ, ◌*◌, ◌^◌}
-use borrow.Author.Rules.{rules}
 use borrow.Author.Tests.{eqb-true, eq-eqb}
 use lib.Dec.{eqb}
 use Rattle.word.specs.Field.{field}
 use Rattle.manual.specs.A5 as A5
 use Rattle.manual_tables.specs.Titles.{number_of}
 use Rattle.manual_tables.proofs.Place.{Column, bits, Same, looked_where}
-use Rattle.manual_tables.proofs.barrier as f
+use Rattle.manual_tables.proofs.barrier.Goals as goal
 
 abbrev columns : List Column
 columns = bits 4 4 ∷ []
@@ -21,11 +20,8 @@ asked w = eqb (field w 20 7) 87
 depends : (w w' : ℕ) → asked w ≡ true → asked w' ≡ true → Same columns w w' → A5.hints_and_simd w ≡ A5.hints_and_simd w'
 depends w w' g g' (a, end) = unfold A5.hints_and_simd in simp (eqb-true (field w 20 7) 87 g, eqb-true (field w' 20 7) 87 g', a)
 
-returns : f.Tie.Need-returns
+pub returns : goal.returns
 unfolding field number_of A5.hints_and_simd
 returns c =
-    looked_where A5.hints_and_simd asked (87 * 2 ^ 20) columns 242 depends tt c.before.before.args.w (eq-eqb _ _ c.before.before.requires)
-    c.before.column.ensures.0 c.title.ensures
-
-pub barrier_spec : {M : Type 1} → f.Statement.statement M
-barrier_spec = f.Tie.close (f.Tie.spec (search rules) (search rules) (search rules) (search rules) returns)
+    looked_where A5.hints_and_simd asked (87 * 2 ^ 20) columns 242 depends tt c.args.w (eq-eqb _ _ c.requires)
+    c.column-place.ensures.0 c.title.ensures

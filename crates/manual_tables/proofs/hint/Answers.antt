@@ -3,7 +3,6 @@ use mathlib.Core.Path.{◌≡◌}
 use mathlib.Core.Bool.{Bool, true}
 use mathlib.Core.List.{List, [], ◌∷◌}
 use Prim.Native.Nat.{ℕ}
-use borrow.Author.Rules.{rules}
 use borrow.Author.Tests.{eqb-true}
 use lib.Dec.{eqb}
 use Rattle.word.specs.Choice.{both}
@@ -12,7 +11,7 @@ use Rattle.manual.specs.A5 as A5
 use Rattle.manual_tables.specs.Titles.{number_of}
 use Rattle.manual_tables.proofs.Place.{Column, bits, Same, looked_where}
 use Rattle.manual_tables.proofs.Parts.{both_true}
-use Rattle.manual_tables.proofs.hint as f
+use Rattle.manual_tables.proofs.hint.Goals as goal
 
 abbrev columns : List Column
 columns = bits 0 8 ∷ []
@@ -30,11 +29,8 @@ zero w g = (
 depends : (w w' : ℕ) → asked w ≡ true → asked w' ≡ true → Same columns w w' → A5.msr_and_hints w ≡ A5.msr_and_hints w'
 depends w w' g g' (a, end) = unfold A5.msr_and_hints in simp (a, (zero w g).0, (zero w g).1, (zero w' g').0, (zero w' g').1)
 
-returns : f.Tie.Need-returns
+pub returns : goal.returns
 unfolding field number_of A5.msr_and_hints
 returns c =
-    looked_where A5.msr_and_hints asked (0) columns 103 depends tt c.before.before.args.w
-    (simp (c.before.before.requires.0, c.before.before.requires.1)) c.before.column.ensures.0 c.title.ensures
-
-pub hint_spec : {M : Type 1} → f.Statement.statement M
-hint_spec = f.Tie.close (f.Tie.spec (search rules) (search rules) (search rules) (search rules) returns)
+    looked_where A5.msr_and_hints asked (0) columns 103 depends tt c.args.w
+    (simp (c.requires.0, c.requires.1)) c.column-place.ensures.0 c.title.ensures

@@ -4,7 +4,6 @@ use mathlib.Core.Bool.{Bool, true}
 use mathlib.Core.List.{List, [], ◌∷◌}
 use Prim.Native.Nat.{ℕ, ◌+◌, ◌*◌, ◌/◌, ◌%◌, ◌^◌}
 use native.Mathlib.Omega.{arith}
-use borrow.Author.Rules.{rules}
 use borrow.Author.Tests.{eqb-true, eq-eqb}
 use lib.Dec.{eqb}
 use Rattle.word.specs.Field.{field, small}
@@ -12,7 +11,7 @@ use Rattle.manual.specs.A5 as A5
 use Rattle.manual_tables.specs.Titles.{number_of}
 use Rattle.manual_tables.proofs.Place.{Column, bits, is, Same, then, looked_where}
 use Rattle.manual_tables.proofs.Parts.{media_op1}
-use Rattle.manual_tables.proofs.bit_fields as f
+use Rattle.manual_tables.proofs.bit_fields.Goals as goal
 
 abbrev columns : List Column
 columns = bits 20 3 ∷ bits 5 3 ∷ is 12 4 15 ∷ is 0 4 15 ∷ []
@@ -31,14 +30,9 @@ unfolding A5.media
 depends w w' g g' (a, (b, (d, (e, end)))) =
     simp (media_op1, eqb-true (field w 23 2) 3 g, eqb-true (field w' 23 2) 3 g', a, b, d, e, upper_16 w', upper_8 w')
 
-returns : f.Tie.Need-returns
+pub returns : goal.returns
 unfolding field number_of A5.media
 returns c =
-    looked_where A5.media asked (3 * 2 ^ 23) columns 210 depends tt c.before.before.before.before.before.args.w
-    (eq-eqb _ _ c.before.before.before.before.before.requires) (then 2 (then 2 (then 8 c.before.before.before.before.column.ensures.0
-    c.before.before.before.column2.ensures.0) c.before.before.is.ensures.0) c.before.is2.ensures.0) c.title.ensures
-
-pub bit_fields_spec : {M : Type 1} → f.Statement.statement M
-bit_fields_spec =
-    f.Tie.close (f.Tie.spec (search rules) (search rules) (search rules) (search rules) (search rules) (search rules) (search rules) (search rules)
-    (search rules) (search rules) (search rules) (search rules) (search rules) returns)
+    looked_where A5.media asked (3 * 2 ^ 23) columns 210 depends tt c.args.w
+    (eq-eqb _ _ c.requires) (then 2 (then 2 (then 8 c.column.ensures.0
+    c.column-2.ensures.0) c.is.ensures.0) c.is-2.ensures.0) c.title.ensures
