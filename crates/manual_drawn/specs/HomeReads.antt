@@ -1,6 +1,6 @@
 -- What the manual says of a word and of its home word: the same, but for two kinds of words. 02, P9: "at home, W is set when P is clear, and U is
 -- set when the offset is 0"; 01: "In addition bit 23 is set".
-use Rattle.std.specs.Prelude.{◌≡◌, Bool, false, not, List, map, ℕ, ◌*◌, ◌^◌}
+use Rattle.std.specs.Prelude.{◌≡◌, Bool, false, not, map, ℕ, ◌*◌, ◌^◌}
 use Prim.Native.String.{String}
 use Rattle.word.specs.Choice.{pick, both}
 use Rattle.word.specs.Field.{field}
