@@ -1,12 +1,12 @@
 -- Where a table leads to another, by the values of its columns. Assumes nothing.
 use mathlib.Core.Path.{◌≡◌, refl, sym, subst, ◌∙◌}
 use mathlib.Core.Bool.{Bool, true, false}
-use Prim.Native.Nat.{ℕ, ◌/◌, ◌%◌, ◌^◌, ◌<◌, ◌≤◌}
+use Prim.Native.Nat.{ℕ, ◌/◌, ◌%◌, ◌<◌}
 use Prim.Native.String.{String}
 use native.Mathlib.Omega.{arith}
 use borrow.Author.Tests.{ne_eqb, eqb-true, eqb-false}
 use lib.Dec.{T, eqb, eqb→eq}
-use Rattle.word.specs.Choice.{pick, both, by_test}
+use Rattle.word.specs.Choice.{pick, by_test}
 use Rattle.word.specs.Every.{at_each}
 use Rattle.word.specs.Field.{field, small}
 use Rattle.manual.specs.A5 as A5
