@@ -1,5 +1,5 @@
 -- The flow of a word's row is the decoder's, but for three departures. Assumes nothing.
-use mathlib.Core.Path.{◌≡◌, refl, sym, ap, ◌∙◌, subst}
+use mathlib.Core.Path.{◌≡◌, refl, sym, ap, ◌∙◌}
 use mathlib.Core.Bool.{Bool, true, false}
 use mathlib.Core.List.{List, [], ◌∷◌}
 use Prim.Native.Nat.{ℕ}
@@ -16,17 +16,17 @@ use Rattle.a32_elsewhere.proofs.Elsewhere.{refused_anywhere}
 use Rattle.encode_home.proofs.Leads.{refusal}
 use Rattle.manual.specs.A5.{table_row}
 use Rattle.manual.specs.A8.{is_among, returning, sees, said_of, said_among, other_page_of, page_of, row_of}
-use Rattle.manual.specs.Departures.{Departure, Standing, follows, departs, load_15, Covering, coverings, standing_among, standing_of, hints, answered}
+use Rattle.manual.specs.Departures.{Standing, follows, departs, load_15, Covering, coverings, standing_among, standing_of, hints, answered}
 use Rattle.manual.specs.Departures.{conditioned, port_loads, literals, displaced, preloads, coprocessor_transfers}
 use Rattle.manual.specs.Reads.{is_set, branches_to}
 use Rattle.manual.specs.Stands.{StandsAs}
 use Rattle.manual.proofs.Fields.{no_true, ◌also◌}
 use Rattle.manual.proofs.Pages.{returns}
 use Rattle.manual_follows.proofs.Follows.{follows_the_manual}
-use Rattle.manual_drawn.proofs.Departing.{one_pages, Leads, by_see}
+use Rattle.manual_drawn.proofs.Departing.{one_pages, by_see}
 use Rattle.manual_drawn.proofs.Drawn.{ranged}
 use Rattle.manual_drawn.proofs.Told.{all_of, one_of, moves, others, returns_tell}
-use Rattle.manual_drawn.proofs.Transfers.{Each, each_of}
+use Rattle.manual_drawn.proofs.Transfers.{each_of}
 use Rattle.manual_flows.specs.Opens.{opens}
 use Rattle.manual_flows.specs.Flows.{Control, goes, unknown, control_as, control_of, Kept, restores}
 use Rattle.manual_flows.proofs.Pages.{same_at, page_goes, port_goes, port_control, loads, answered_so, agreed_so}

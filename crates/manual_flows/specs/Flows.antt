@@ -1,5 +1,5 @@
 -- DDI 0406C, chapters A8 and B9: what the operation of a word's row does with control, in 01's terms.
-use Rattle.std.specs.Prelude.{◌≡◌, Bool, List, [], ◌∷◌, ℕ, eqb}
+use Rattle.std.specs.Prelude.{◌≡◌, List, [], ◌∷◌, ℕ, eqb}
 use Prim.Native.String.{String}
 use lib.Text.{eqt}
 use Rattle.word.specs.Choice.{pick}

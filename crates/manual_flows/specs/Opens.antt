@@ -1,7 +1,7 @@
 -- DDI 0406C, chapters A7, A8 and B9: where nothing is said of how control goes on. That is what a table of A5 leaves undefined or unpredictable, and
 -- a destination of 15 of which a page says "UNPREDICTABLE". A destination is a register that the operation writes, a base that is written back among
 -- them. What chapter A7 leaves undefined in its own tables is not told apart.
-use Rattle.std.specs.Prelude.{Bool, true, false, not, List, [], ◌∷◌, ◌++◌, ℕ, eqb}
+use Rattle.std.specs.Prelude.{Bool, true, false, not, List, [], ◌∷◌, ℕ, eqb}
 use Prim.Native.String.{String}
 use Rattle.word.specs.Choice.{pick, both}
 use Rattle.word.specs.Field.{field}
