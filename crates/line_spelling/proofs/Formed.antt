@@ -234,7 +234,7 @@ module _ (w : ℕ) {addr name : ℕ} {flow : Flow} (under : Under w name flow) w
   row0 aimed = up_to_four [] tt tt aimed
 
   pub row1 : {a : Operand} → Sound true name a → Aimed (a ∷ []) flow → Good addr (answer w addr name flow (a ∷ []))
-  row1 s aimed = up_to_four _ tt s aimed
+  row1 s aimed = up_to_four (_ ∷ []) tt s aimed
 
   pub row2 : {a b : Operand} → Sound false name a → Sound true name b → Aimed (a ∷ b ∷ []) flow → Good addr (answer w addr name flow (a ∷ b ∷ []))
   row2 s t aimed = up_to_four (_ ∷ _ ∷ []) tt (s, t) aimed

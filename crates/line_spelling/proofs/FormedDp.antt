@@ -6,7 +6,7 @@ use Prim.Native.Nat.{ℕ, ◌*◌, ◌^◌, ◌<◌}
 use native.Mathlib.Omega.{arith}
 use borrow.Author.Tests.{ltb-false}
 use lib.Dec.{T, eqb, ltb, lit<, eqb→eq}
-use lib.IntN.{nat_abs}
+use lib.IntN.{pos, nat_abs}
 use lib.ListN.{get_or}
 use Rattle.word.specs.Choice.{both, tested}
 use Rattle.word.specs.Every.{left, right, at_each}
@@ -16,8 +16,9 @@ use Rattle.insn.specs.Roots.{name}
 use Rattle.insn.specs.declared.Flow.{Flow}
 use Rattle.insn.specs.declared.Flow.TheVariants.{Next}
 use Rattle.insn.specs.declared.Operand.{Operand}
+use Rattle.insn.specs.declared.Operand.TheVariants.{Count}
 use Rattle.a32_shared.specs.Row.{reg_of, mask_of, pc_flow, answer}
-use Rattle.a32_shared.specs.Shifts.{amount_of, plain_of, rrx_of, shifted_of}
+use Rattle.a32_shared.specs.Shifts.{amount_of, plain_of, rrx_of, shift_by_of, shifted_of}
 use Rattle.a32_imm.specs.Closed.{value_fits}
 use Rattle.a32_imm.specs.Imm.{imm_of, so_imm_of, least_of, count_of, byte_of, rotation_of}
 use Rattle.a32_dp.specs.Names.{plain, setting, dp_name, shift_name}
@@ -91,28 +92,29 @@ module _ (w addr : ℕ) (c : eqb (field w 28 4) 15 ≡ false) where
   one_source : (lo : ℕ) → Good addr (answer w addr (dp_name w) (pc_flow w) (reg_of w lo ∷ source_of w))
   one_source lo =
       either (λ ops. Good addr (answer w addr (dp_name w) (pc_flow w) (reg_of w lo ∷ ops))) amounted
-      (row2 w (operation (pc_flow w)) (reg w lo) (shifted (dp_name w)) (to_pc_lem _))
-      (row3 w (operation (pc_flow w)) (reg w lo) (reg w 0) (reg w 8) (to_pc_lem _))
+      (row2 w (operation (pc_flow w)) (reg w lo) (shifted (dp_name w)) (to_pc_lem (reg_of w lo ∷ shifted_of w ∷ [])))
+      (row3 w (operation (pc_flow w)) (reg w lo) (reg w 0) (reg w 8) (to_pc_lem (reg_of w lo ∷ reg_of w 0 ∷ shift_by_of w ∷ [])))
 
   two_source : Good addr (answer w addr (dp_name w) (pc_flow w) (reg_of w 12 ∷ reg_of w 16 ∷ source_of w))
   two_source =
       either (λ ops. Good addr (answer w addr (dp_name w) (pc_flow w) (reg_of w 12 ∷ reg_of w 16 ∷ ops))) amounted
-      (row3 w (operation (pc_flow w)) (reg w 12) (reg w 16) (shifted (dp_name w)) (to_pc_lem _))
-      (row4 w (operation (pc_flow w)) (reg w 12) (reg w 16) (reg w 0) (reg w 8) (to_pc_lem _))
+      (row3 w (operation (pc_flow w)) (reg w 12) (reg w 16) (shifted (dp_name w)) (to_pc_lem (reg_of w 12 ∷ reg_of w 16 ∷ shifted_of w ∷ [])))
+      (row4 w (operation (pc_flow w)) (reg w 12) (reg w 16) (reg w 0) (reg w 8) (to_pc_lem (reg_of w 12 ∷ reg_of w 16 ∷ reg_of w 0 ∷ shift_by_of w ∷ [])))
 
   mov_good : Good addr (mov_of w addr)
   mov_good =
       choice amounted
       (choice (plain_of w)
       (either (λ n. Good addr (answer w addr n (mov_flow w) (reg_of w 12 ∷ reg_of w 0 ∷ []))) (eqb (field w 20 1) 0)
-      (row2 w (tt, c) (reg w 12) (reg w 0) (to_return _))
-      (row2 w (tt, c) (reg w 12) (reg w 0) (to_return _)))
+      (row2 w (tt, c) (reg w 12) (reg w 0) (to_return (reg_of w 12 ∷ reg_of w 0 ∷ [])))
+      (row2 w (tt, c) (reg w 12) (reg w 0) (to_return (reg_of w 12 ∷ reg_of w 0 ∷ []))))
       (choice (rrx_of w)
       (either (λ n. Good addr (answer w addr n (pc_flow w) (reg_of w 12 ∷ reg_of w 0 ∷ []))) (eqb (field w 20 1) 0)
-      (row2 w (tt, c) (reg w 12) (reg w 0) (to_pc_lem _))
-      (row2 w (tt, c) (reg w 12) (reg w 0) (to_pc_lem _)))
-      (row3 w shift (reg w 12) (reg w 0) (signs (shift_name w) (shift_name_lem w), omega (arith, amount)) (to_pc_lem _))))
-      (row3 w shift (reg w 12) (reg w 0) (reg w 8) (to_pc_lem _))
+      (row2 w (tt, c) (reg w 12) (reg w 0) (to_pc_lem (reg_of w 12 ∷ reg_of w 0 ∷ [])))
+      (row2 w (tt, c) (reg w 12) (reg w 0) (to_pc_lem (reg_of w 12 ∷ reg_of w 0 ∷ []))))
+      (row3 w shift (reg w 12) (reg w 0) (signs (shift_name w) (shift_name_lem w), omega (arith, amount))
+      (to_pc_lem (reg_of w 12 ∷ reg_of w 0 ∷ Count (pos (amount_of (field w 5 2) (field w 7 5))) ∷ [])))))
+      (row3 w shift (reg w 12) (reg w 0) (reg w 8) (to_pc_lem (reg_of w 12 ∷ reg_of w 0 ∷ reg_of w 8 ∷ [])))
 
   pub dp_reg_good : Good addr (dp_reg_of w addr)
   dp_reg_good =
@@ -133,20 +135,23 @@ module _ (w addr : ℕ) (c : eqb (field w 28 4) 15 ≡ false) where
   turn : 2 * rotation_of imm12 < 2 ^ 32
   turn = omega (arith, small imm12 8 4)
 
+  abbrev least : Bool → Operand
+  least unsigned = Count (count_of unsigned (so_imm_of imm12))
+
   -- an immediate, after one operand and after two
   module _ {name : ℕ} {flow : Flow} (plain : hashed name ≡ 0) (under : Under w name flow) (aimed : (ops : List Operand) → Aimed ops flow)
       (unsigned : Bool) where
     one_value : (a : Operand) → Sound false name a → Good addr (answer w addr name flow (a ∷ imm_of imm12 unsigned))
     one_value a s =
         either (λ ops. Good addr (answer w addr name flow (a ∷ ops))) (least_of imm12)
-        (row2 w under s (plain, value unsigned) (aimed _))
-        (row3 w under s (plain, byte) (plain, turn) (aimed _))
+        (row2 w under s (plain, value unsigned) (aimed (a ∷ least unsigned ∷ [])))
+        (row3 w under s (plain, byte) (plain, turn) (aimed (a ∷ Count (pos (byte_of imm12)) ∷ Count (pos (2 * rotation_of imm12)) ∷ [])))
 
     two_value : (a b : Operand) → Sound false name a → Sound false name b → Good addr (answer w addr name flow (a ∷ b ∷ imm_of imm12 unsigned))
     two_value a b s t =
         either (λ ops. Good addr (answer w addr name flow (a ∷ b ∷ ops))) (least_of imm12)
-        (row3 w under s t (plain, value unsigned) (aimed _))
-        (row4 w under s t (plain, byte) (plain, turn) (aimed _))
+        (row3 w under s t (plain, value unsigned) (aimed (a ∷ b ∷ least unsigned ∷ [])))
+        (row4 w under s t (plain, byte) (plain, turn) (aimed (a ∷ b ∷ Count (pos (byte_of imm12)) ∷ Count (pos (2 * rotation_of imm12)) ∷ [])))
 
   no_pattern : hashed (dp_name w) ≡ 0
   no_pattern = signs (dp_name w) (dp_name_lem w)

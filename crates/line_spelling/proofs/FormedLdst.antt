@@ -1,6 +1,7 @@
 -- Loads and stores are formed, the extra ones too. Assumes nothing.
 use mathlib.Core.Path.{◌≡◌, refl}
 use mathlib.Core.Bool.{Bool, false, true, not}
+use mathlib.Core.List.{List, [], ◌∷◌}
 use Prim.Native.Nat.{ℕ, zero, suc, ◌+◌, ◌%◌, ◌<◌}
 use native.Mathlib.Omega.{arith}
 use borrow.Author.Tests.{eqb-true, eqb-false}
@@ -12,6 +13,8 @@ use Rattle.word.specs.Layout.{joined_small}
 use Rattle.word.specs.Signed.{minus}
 use Rattle.insn.specs.Roots.{name}
 use Rattle.insn.specs.declared.Flow.TheVariants.{Next}
+use Rattle.insn.specs.declared.Operand.{Operand}
+use Rattle.a32_shared.specs.Row.{reg_of}
 use Rattle.a32_ldst.specs.Mem.{U, L, is_clear, is_offset, unprivileged_of, mode_of, is_post, post_of, minus_zero_of, disp_of, with_disp_of, with_index_of}
 use Rattle.a32_ldst.specs.ExtraLdst as X
 use Rattle.a32_ldst.specs.ExtraLdst.{immediate, imm8, subtracted_index_of, extra_ldst_of}
@@ -101,4 +104,7 @@ module _ (w addr : ℕ) (c : eqb (field w 28 4) 15 ≡ false) where
       choice (refused_index_of w) no_row_lem
       (row2 w (by_name w (name_of w) c (eight (λ n. T (ordinary n)) tt tt tt tt tt tt tt tt) (flow_of w)) (reg w 12)
       (either (Sound true (name_of w)) (is_clear w reg_form) (with_disp w few post (small w 0 12) mark) (with_index w few post (small w 7 5)))
-      (either (Aimed _) (is_clear w L) tt (either (Aimed _) (eqb (field w 12 4) 15) tt tt)))
+      (either (Aimed operands) (is_clear w L) tt (either (Aimed operands) (eqb (field w 12 4) 15) tt tt)))
+    where
+      operands : List Operand
+      operands = reg_of w 12 ∷ memory_of w ∷ []

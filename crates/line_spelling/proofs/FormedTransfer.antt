@@ -12,8 +12,9 @@ use Rattle.insn.specs.Roots.{name}
 use Rattle.insn.specs.declared.AddrMode.TheVariants.{Offset}
 use Rattle.insn.specs.declared.Flow.TheVariants.{Next}
 use Rattle.insn.specs.declared.Operand.{Operand}
-use Rattle.a32_shared.specs.Row.{answer}
-use Rattle.a32_transfer.specs.Block.{name_of, flow_of, stack_of, multiple_of, block_of}
+use Rattle.insn.specs.declared.Operand.TheVariants.{WriteBack}
+use Rattle.a32_shared.specs.Row.{register_of, reg_of, answer}
+use Rattle.a32_transfer.specs.Block.{name_of, flow_of, list_of, stack_of, multiple_of, block_of}
 use Rattle.a32_transfer.specs.Branch.{target_from, branch_of}
 use Rattle.a32_transfer.specs.Unconditional.{barrier_slot, barrier_of, preload_slot, memory_of, unconditional_of}
 use Rattle.line_spelling.proofs.Formed.{reg, Good, Sound, Aimed, decimal_for, ordinary, by_name, either, choice, at, no_row_lem, row0, row1, row2}
@@ -50,7 +51,7 @@ module _ (w addr : ℕ) where
         row2 w (by_name w (name_of w) c eight (flow_of w))
         (either (Sound false (name_of w)) (eqb (field w 21 1) 0) (reg w 16) (reg w 16))
         (small w 0 16)
-        (goes _)
+        (goes (pick (eqb (field w 21 1) 0) (reg_of w 16) (WriteBack (register_of w 16)) ∷ list_of w ∷ []))
 
     pub block_good : Good addr (block_of w addr)
     block_good =
@@ -58,8 +59,8 @@ module _ (w addr : ℕ) where
         (at (field w 0 16) 0 no_row_lem
         (choice (stack_of w)
         (at (field w 20 1) 0
-        (at (field w 23 2) 2 (row1 w (tt, c) (small w 0 16) (goes _)) multiple)
-        (at (field w 23 2) 1 (row1 w (tt, c) (small w 0 16) (goes _)) multiple))
+        (at (field w 23 2) 2 (row1 w (tt, c) (small w 0 16) (goes (list_of w ∷ []))) multiple)
+        (at (field w 23 2) 1 (row1 w (tt, c) (small w 0 16) (goes (list_of w ∷ []))) multiple))
         multiple))
         no_row_lem
 

@@ -1,5 +1,5 @@
 -- How a word's answer reads, and its line of the listing (01, "Section and listing").
-use Rattle.std.specs.Prelude.{List, [], ◌∷◌, ◌++◌, ℕ, eqb}
+use Rattle.std.specs.Prelude.{List, [], ◌++◌, ℕ, eqb}
 use Rattle.word.specs.Choice.{pick}
 use Rattle.text.specs.Text.{bytes, decimal_of, signed_of, hex_of}
 use Rattle.insn.specs.Answer.{spread}
