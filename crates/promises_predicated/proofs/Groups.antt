@@ -1,10 +1,10 @@
 -- What does not read 31:28 can't depend on it: group by group, an answer is that of a word which differs in the condition alone, under its own
 -- condition. Assumes nothing.
-use mathlib.Core.Path.{◌≡◌, refl}
+use mathlib.Core.Path.{◌≡◌}
 use Prim.Native.Nat.{ℕ}
 use lib.Dec.{eqb}
 use Rattle.encode_home.specs.Alike.{Alike, fields_alike}
-use Rattle.word.specs.Choice.{pick, by_test}
+use Rattle.word.specs.Choice.{by_test}
 use Rattle.word.specs.Field.{field}
 use Rattle.insn.specs.declared.Decoded.{Decoded}
 use Rattle.a32_shared.specs.Shifts as Shifts

@@ -2,7 +2,7 @@
 use Rattle.std.specs.Prelude.{List, ◌++◌, ℕ, eqb}
 use Rattle.word.specs.Choice.{pick}
 use Rattle.insn.specs.Answer.{insn_of, accepted}
-use Rattle.insn.specs.Roots.{name, roots}
+use Rattle.insn.specs.Roots.{roots}
 use Rattle.insn.specs.declared.Decoded.{Decoded}
 use Rattle.insn.specs.declared.Flow.{Flow}
 use Rattle.insn.specs.declared.Flow.TheVariants.{Next, Branch, CondBranch, IndirectBranch, Call, IndirectCall, Return, Trap}
