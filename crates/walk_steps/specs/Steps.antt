@@ -1,5 +1,5 @@
 -- The places that a place leads to, and the ways out of the section (02, P7).
-use Rattle.std.specs.Prelude.{Bool, true, false, not, List, [], ◌∷◌, ◌++◌, ℕ, ◌+◌, ◌-◌, ◌/◌, leb, ltb}
+use Rattle.std.specs.Prelude.{Bool, not, List, [], ◌∷◌, ◌++◌, ℕ, ◌+◌, ◌-◌, ◌/◌, leb, ltb}
 use Rattle.word.specs.Choice.{pick, both}
 use Rattle.section.specs.Section.{opened_of}
 use Rattle.section.specs.declared.Opened.{Opened}
