@@ -3,12 +3,11 @@ use mathlib.Core.Path.{◌≡◌, sym, ap, ◌∙◌, subst}
 use Prim.Native.Nat.{ℕ, ◌+◌, ◌-◌, ◌*◌, ◌/◌, ◌%◌, ◌^◌, ◌<◌, ◌≤◌}
 use native.Mathlib.Nat.{mod-eq_of_lt}
 use native.Mathlib.Omega.{arith}
-use borrow.Author.Rules.{rules}
 use borrow.Author.Tests.{lt-ltb, le-leb}
 use lib.Pow.{pow_pos}
 use Rattle.word.specs.Field.{put, put_small}
 use Rattle.word.proofs.One.{shifted_one}
-use Rattle.encode_words.proofs.fill.ones as f
+use Rattle.encode_words.proofs.fill.ones.Goals as goal
 
 module _ (w hi lo : ℕ) (small : w < 2 ^ 32) (order : lo ≤ hi) (most : hi < 31) where
   abbrev width : ℕ
@@ -53,12 +52,11 @@ module _ (w hi lo : ℕ) (small : w < 2 ^ 32) (order : lo ≤ hi) (most : hi < 3
   add_above : above % 2 ^ 32 + (((1 * 2 ^ (hi + 1 - lo)) % 2 ^ 32 - 1) * 2 ^ lo % 2 ^ 32 + w % ((1 * 2 ^ lo) % 2 ^ 32)) < 2 ^ 32
   add_above = rw (one, below, drawn_is, above_is) fits
 
-pub ones_spec : {M : Type 1} → f.Statement.statement M
-ones_spec =
-    f.Tie.close (f.Tie.spec (search rules) (search rules) (search rules) (search rules) (search rules)
-    (λ c. rw (one c.args.w c.args.hi c.args.lo (omega arith) c.requires.0 c.requires.1) (omega (arith, pow_pos (c.args.hi - c.args.lo + 1))))
-    (search rules) (search rules)
-    (λ c. rw (below c.args.w c.args.hi c.args.lo (omega arith) c.requires.0 c.requires.1) (pow_pos c.args.lo))
-    (λ c. record { fits = add_drawn c.args.w c.args.hi c.args.lo (omega arith) c.requires.0 c.requires.1 })
-    (λ c. record { fits = add_above c.args.w c.args.hi c.args.lo (omega arith) c.requires.0 c.requires.1 })
-    (λ c. together c.args.w c.args.hi c.args.lo (omega arith) c.requires.0 c.requires.1))
+pub overflow_add-result : goal.overflow_add-result
+overflow_add-result c = record { fits = add_drawn c.args.w c.args.hi c.args.lo (omega arith) c.requires.0 c.requires.1 }
+
+pub overflow_add-result-2 : goal.overflow_add-result-2
+overflow_add-result-2 c = record { fits = add_above c.args.w c.args.hi c.args.lo (omega arith) c.requires.0 c.requires.1 }
+
+pub returns : goal.returns
+returns c = together c.args.w c.args.hi c.args.lo (omega arith) c.requires.0 c.requires.1
