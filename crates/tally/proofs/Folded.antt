@@ -1,5 +1,5 @@
 -- A section counted place by place, its end last, is counted whole. Assumes nothing.
-use Rattle.std.proofs.Common.{◌≡◌, ℕ, ◌+◌, List, [], ◌∷◌, ◌++◌, sym, ap, ◌∙◌, add-zero}
+use Rattle.std.proofs.Common.{◌≡◌, ℕ, List, [], ◌∷◌, ◌++◌, sym, ap, ◌∙◌, add-zero}
 use mathlib.Core.Path.{fun_ext}
 use mathlib.Core.List.{foldl, foldl-append}
 use Rattle.section.specs.Section.{places_of}

@@ -1,0 +1,9 @@
+-- `tally::add_to` meets its contract. Assumes nothing.
+use Rattle.std.proofs.Common.{sym, ◌∙◌}
+use Rattle.tally.proofs.Answers.{is_tally}
+use Rattle.tally.proofs.add_to.Goals as goal
+
+pub count_all-requires : goal.count_all-requires
+count_all-requires c =
+    let answers = rw c.open-opened.ensures at c.refusal-refusal.ensures in
+    (is_tally _ _ (sym answers ∙ c.if-refusal-eq0.true), c.open-opened.ensures)
