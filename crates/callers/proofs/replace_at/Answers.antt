@@ -16,9 +16,6 @@ use Rattle.callers.specs.Calls.{callee_here}
 use Rattle.callers.specs.Index.{updated_of}
 use Rattle.callers.proofs.Answers.{many, few, updates_none, updates}
 use Rattle.callers.proofs.replace_at.Goals as goal
-use Rattle.callers.proofs.replace_at.Lts as lts
-use Rattle.callers.proofs.replace_at.Reads as reads
-use Rattle.callers.proofs.replace_at.Tie as tie
 
 -- the address of a place fits
 addressed : (s : List ℕ) (o : Opened) (place : ℕ) → o ≡ opened_of s → place < o.count → o.base + 4 * place < 2 ^ 32
@@ -32,21 +29,6 @@ is_updated s {o} place w l opened is = unfold updated_of in
     ap (λ (x : Callee). update_of (o.base + 4 * place) x l) is
     ∙ ap (λ (x : Opened). update_of (x.base + 4 * place) (callee_here (here_of (replaced_of s place w) place)) l) opened
 
--- what was counted is the definition's update
-module _ (c : lts.After-updated_len tie.the-claims reads.Pre reads.Post tie.handed_clauses) where
-  counts : c.updated_len.result ≡ length (updated_of
-      c.args.section.now
-      c.args.place
-      c.args.word
-      (entries_of
-      c.args.index.now
-      c.args.count))
-  counts =
-      let args = c.args in
-      c.updated_len.ensures
-      ∙ ap (λ (l : List Entry). length l) (is_updated args.section.now args.place args.word (entries_of args.index.now args.count)
-      c.requires.0 c.callee_at-callee.ensures)
-
 pub overflow_mul-caller : goal.overflow_mul-caller
 overflow_mul-caller c =
     record { fits = omega (arith, addressed c.args.section.now c.args.opened c.args.place c.requires.0 c.requires.1) }
@@ -58,16 +40,18 @@ overflow_add-caller c =
 pub returns-then-updated_len-gt-MOST : goal.returns-then-updated_len-gt-MOST
 returns-then-updated_len-gt-MOST c =
     let args = c.args in
-    let after = updated_of args.section.now args.place args.word (entries_of args.index.now args.count) in
-    updates_none (many after (omega (arith, counts c.before.before, c.if-updated_len-gt-MOST.true))) (λ z. omega arith) c.refuse.ensures
+    let l = entries_of args.index.now args.count in
+    let same = is_updated args.section.now args.place args.word l c.requires.0 c.callee_at-callee.ensures in
+    let counts = c.updated_len.ensures ∙ ap (λ (k : List Entry). length k) same in
+    updates_none (many (updated_of args.section.now args.place args.word l) (omega (arith, counts))) (λ z. omega arith) c.refuse.ensures
 
 pub returns : goal.returns
 returns c =
     let args = c.args in
     let l = entries_of args.index.now args.count in
     let same = is_updated args.section.now args.place args.word l c.requires.0 c.callee_at-callee.ensures in
-    let after = updated_of args.section.now args.place args.word l in
-    updates args.place args.word args.count (few after (omega (arith, counts c.before.before.before.before.before.before.before.before.before.before, c.if-updated_len-gt-MOST.false)))
+    let counts = c.updated_len.ensures ∙ ap (λ (k : List Entry). length k) same in
+    updates args.place args.word args.count (few (updated_of args.section.now args.place args.word l) (omega (arith, counts)))
     (c.update.ensures.value ∙ ap (λ (k : List Entry). length k) same)
     c.replace.ensures
     (c.update.ensures.index_after ∙ ap (λ (k : List Entry). written args.index.now 0 (numbers_of k)) same)
