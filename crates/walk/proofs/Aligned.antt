@@ -1,11 +1,11 @@
 -- A direct target that stays in A32 is a multiple of 4, as its address is. Assumes nothing.
-use mathlib.Core.Path.{◌≡◌, refl, sym, ap, subst, ◌∙◌}
+use mathlib.Core.Path.{◌≡◌, refl, sym, ◌∙◌}
 use mathlib.Core.Bool.{Bool, true, false}
-use Prim.Native.Nat.{ℕ, ◌+◌, ◌*◌, ◌%◌, ◌^◌}
+use Prim.Native.Nat.{ℕ, ◌*◌, ◌%◌, ◌^◌}
 use native.Mathlib.Omega.{arith}
 use borrow.Author.Tests.{eqb-true, eqb-false}
 use lib.Dec.{eqb, ltb}
-use Rattle.word.specs.Choice.{pick, by_test, tested}
+use Rattle.word.specs.Choice.{pick, by_test}
 use Rattle.word.specs.Field.{field}
 use Rattle.word.specs.Signed.{sext_of}
 use Rattle.insn.specs.Answer.{accepted, refused}

@@ -1,8 +1,8 @@
 -- If no record says a way out, all that is reached stays in the section. Assumes nothing.
-use mathlib.Core.Path.{◌≡◌, refl, sym, ap, subst, ◌∙◌}
-use mathlib.Core.Bool.{Bool, true, false, not, true≢false}
+use mathlib.Core.Path.{◌≡◌, refl, sym, ap, ◌∙◌}
+use mathlib.Core.Bool.{Bool, true, false}
 use mathlib.Core.List.{List, [], ◌∷◌, ◌++◌}
-use Prim.Native.Nat.{ℕ, zero, suc, ◌+◌, ◌*◌, ◌-◌, ◌/◌, ◌%◌, ◌<◌, ◌≤◌}
+use Prim.Native.Nat.{ℕ, zero, suc, ◌+◌, ◌*◌, ◌/◌, ◌%◌, ◌<◌}
 use native.Mathlib.Omega.{arith}
 use borrow.Author.Tests.{eqb-true, eqb-false, eq-eqb, lt-ltb, ltb-true, leb-true}
 use lib.Dec.{eqb, leb, ltb}
@@ -27,7 +27,7 @@ use Rattle.section.proofs.Accepted.{accepted, opens, refuses}
 use Rattle.section.proofs.Places.{something, how_many_lem, before_end}
 use Rattle.walk_marks.specs.Marks.{Marked}
 use Rattle.walk_marks.proofs.Marking.{true_false}
-use Rattle.walk_steps.specs.Leads.{goes_on, goes_to, stops, perhaps, flow_leads, answer_leads, here_leads, leads_at}
+use Rattle.walk_steps.specs.Leads.{goes_to, flow_leads, answer_leads, here_leads, leads_at}
 use Rattle.walk_steps.specs.Steps.{place_of, is_inside, runs_off, leaves, steps_of}
 use Rattle.walk_steps.specs.declared.Leads.{Leads}
 use Rattle.walk.specs.Report.{three_of, ways_in, ways_out, records_from, records_here, records_before, report_of}

@@ -4,7 +4,6 @@ use Rattle.insn.specs.Roots.{name}
 use Rattle.insn.specs.declared.Cond.{Cond}
 use Rattle.insn.specs.declared.Flow.{Flow}
 use Rattle.insn.specs.declared.Flow.TheVariants.{Next, Branch, CondBranch, IndirectBranch, Call, IndirectCall, Return, Trap}
-use Rattle.insn.specs.declared.Insn.{Insn}
 use Rattle.a32.specs.Decode.{decode_of}
 use Rattle.section.specs.declared.Here.{Here}
 use Rattle.section.specs.declared.Here.TheVariants.{Word, Data, End}

@@ -1,5 +1,5 @@
 -- The report of a walk: records of three numbers, a place, a kind and a value, "in order of place", then of kind (02, P7).
-use Rattle.std.specs.Prelude.{◌≡◌, Bool, true, false, List, [], ◌∷◌, ◌++◌, ℕ, zero, suc, get_or}
+use Rattle.std.specs.Prelude.{Bool, true, false, List, [], ◌∷◌, ◌++◌, ℕ, zero, suc, get_or}
 use Rattle.word.specs.Choice.{pick}
 use Rattle.section.specs.Section.{opened_of}
 use Rattle.section.specs.declared.Opened.{Opened}

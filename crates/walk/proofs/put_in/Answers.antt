@@ -1,0 +1,28 @@
+-- `walk::put_in` meets its contract. Assumes nothing.
+use mathlib.Core.Path.{ap}
+use mathlib.Core.Bool.{Bool}
+use native.Mathlib.Omega.{arith}
+use lib.ListN.{length, length-append}
+use Rattle.text.proofs.Writing.{◌then◌}
+use Rattle.walk.specs.Report.{three_of, ways_in}
+use Rattle.walk.proofs.put_in.Goals as goal
+
+pub put_three-at-requires : goal.put_three-at-requires
+unfolding ways_in
+put_three-at-requires c = let pre = c.requires in (omega (arith, simp length-append at pre.0), pre.1)
+
+pub put_three-at-requires-2 : goal.put_three-at-requires-2
+unfolding ways_in
+put_three-at-requires-2 c =
+    let pre = c.requires in
+    (rw c.leaves-out_of.ensures (omega (arith, simp length-append at pre.0)), pre.1)
+
+pub put_three-requires : goal.put_three-requires
+unfolding ways_in
+put_three-requires c =
+    let same = ap (λ (b : Bool). length (three_of b c.args.place 1 c.args.leads.target)) c.leaves-out_of.ensures in
+    (omega (arith, same, simp length-append at c.requires.0), c.requires.1)
+
+pub returns : goal.returns
+returns c = unfold ways_in in
+    c.put_three-at.ensures then rw c.leaves-out_of.ensures at c.put_three-at-2.ensures then c.put_three.ensures
