@@ -1,11 +1,10 @@
 -- A word or a part of one in 32 bits, by what was chosen for it. Assumes nothing.
 use mathlib.Core.Path.{◌≡◌, ap, sym, ◌∙◌}
-use mathlib.Core.Bool.{true, false}
+use mathlib.Core.Bool.{false}
 use Prim.Native.Nat.{ℕ, ◌%◌, ◌^◌}
 use lib.Dec.{eqb}
 use Rattle.insn_parts.specs.declared.Flat.{Flat}
-use Rattle.insn_parts.specs.Parts.{number}
-use Rattle.encode_home.specs.WordDp.{imm12, by_amount, by_register, source12, shift12}
+use Rattle.encode_home.specs.WordDp.{imm12, by_amount, by_register, source12}
 
 -- what stands for n stands for what n was chosen for
 pub by : {r n m : ℕ} → r ≡ n % 2 ^ 32 → m ≡ n → r ≡ m % 2 ^ 32

@@ -24,7 +24,7 @@ use Rattle.section.specs.declared.Opened.{Opened}
 use Rattle.section.proofs.Accepted.{opened}
 use Rattle.section.proofs.Places.{how_many_lem, before_end, at_end}
 use Rattle.home_form.specs.Home.{word_here, home_here, gathered, bytes_at, home_form_of}
-use Rattle.home_form.specs.Changes.{change_at, listed, changes_at, changes_of}
+use Rattle.home_form.specs.Changes.{change_at, changes_at, changes_of}
 use Rattle.home_form.specs.Kept.{Bytes, Stays, In, Differs, Ascending}
 use Rattle.home_form.specs.declared.Change.{Change}
 use Rattle.home_form.proofs.Gathered.{same_gathered}
