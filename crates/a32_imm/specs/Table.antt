@@ -1,5 +1,5 @@
 -- A list that has a function's value at each of its places, from one test over the list. Assumes nothing.
-use Rattle.std.specs.Prelude.{◌≡◌, refl, Bool, true, false, List, [], ◌∷◌, ℕ, zero, suc, ◌+◌, ◌<◌, T, eqb, get_or, length}
+use Rattle.std.specs.Prelude.{◌≡◌, Bool, true, List, [], ◌∷◌, ℕ, zero, suc, ◌+◌, ◌<◌, T, eqb, get_or, length}
 use Rattle.std.proofs.Common.{◌∙◌, subst, sym, ap, add-zero, zero-add, add-suc, suc-add, le_of_suc-le-suc, not-suc-le-zero, eqb→eq}
 use Rattle.word.specs.Choice.{both}
 use Rattle.word.specs.Every.{left, right}
