@@ -47,19 +47,19 @@ take_up-requires-clause-held c =
     let now = c.loop-at in
     let opened = c.requires.opened_value in
     let inside =
-    waits_inside _ _ (inside_of _ opened.0) _ now.invariant.2 (waits now.reached now.waiting now.invariant.0 now.at now.invariant.1 c.loop-at-test.true) opened.2 in
+    waits_inside _ _ (inside_of _ opened.0) _ now.invariant.2 (waits now.reached now.waiting now.invariant.0 now.at now.invariant.1 (omega arith)) opened.2 in
     (now.invariant.0, inside, opened.1)
 
 pub overflow_add-words : goal.overflow_add-words
 overflow_add-words c =
     let now = c.loop-at in
-    let fewer = few now.reached now.waiting now.invariant.0 now.at now.invariant.1 c.loop-at-test.true c.args.section.now c.args.entry now.words c.requires.opened_value.0 now.invariant.2 in
+    let fewer = few now.reached now.waiting now.invariant.0 now.at now.invariant.1 (omega arith) c.args.section.now c.args.entry now.words c.requires.opened_value.0 now.invariant.2 in
     record { fits = omega (arith, fewer) }
 
 pub loop-at-smaller : goal.loop-at-smaller
 loop-at-smaller c =
     let now = c.loop-at in
-    omega (arith, few now.reached now.waiting now.invariant.0 now.at now.invariant.1 c.loop-at-test.true c.args.section.now c.args.entry now.words c.requires.opened_value.0 now.invariant.2)
+    omega (arith, few now.reached now.waiting now.invariant.0 now.at now.invariant.1 (omega arith) c.args.section.now c.args.entry now.words c.requires.opened_value.0 now.invariant.2)
 
 pub loop-at-preserved : goal.loop-at-preserved
 loop-at-preserved c =
@@ -67,7 +67,7 @@ loop-at-preserved c =
     let opened = c.requires.opened_value in (
       (c.take_up.auto.reached ∙ now.invariant.0.0, c.take_up.auto.waiting ∙ now.invariant.0.1),
       c.next-at.ensures,
-      took _ _ (inside_of _ opened.0) _ now.invariant.2 (waits now.reached now.waiting now.invariant.0 now.at now.invariant.1 c.loop-at-test.true)
+      took _ _ (inside_of _ opened.0) _ now.invariant.2 (waits now.reached now.waiting now.invariant.0 now.at now.invariant.1 (omega arith))
           (omega (arith, opened.1, now.invariant.0.0, length_marks now.reached)) c.take_up.ensures,
     )
 
