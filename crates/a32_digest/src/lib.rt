@@ -17,8 +17,7 @@ const MODULUS: u64 = 4_294_967_291;
 const MULTIPLIER: u64 = 16_777_619;
 
 /// Folds the answers to `count` words from `first` on, all at `addr`, into `h`. The word after the last of all is 0.
-#[unsafe(no_mangle)]
-pub extern "C" fn digest(h: u64, first: u32, count: u32, addr: u64) -> u64
+pub fn digest(h: u64, first: u32, count: u32, addr: u64) -> u64
     ensures { result ≡ digest_of h first count addr }
 {
     let mut s = State(h);

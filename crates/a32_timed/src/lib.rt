@@ -7,8 +7,7 @@ ghost use Rattle.a32_timed.specs.Timed.{decoded_of};
 use a32::decode;
 
 /// The name number of the answer to `w`, with its flow's number and its refusal above it.
-#[unsafe(no_mangle)]
-pub extern "C" fn decoded(w: u32, addr: u64) -> u64
+pub fn decoded(w: u32, addr: u64) -> u64
     ensures { result ≡ decoded_of w addr }
 {
     let d = decode(w, addr);

@@ -13,8 +13,7 @@ use crate::pages::{is_return, is_returning, other_page};
 const SUBS_PC_LR: u16 = 268;
 
 /// The number of the row of `w`, by the tables of chapter A5 and the pages of chapter A8.
-#[unsafe(no_mangle)]
-pub extern "C" fn brassdozen_manual_row(w: u32) -> u16
+pub fn brassdozen_manual_row(w: u32) -> u16
     ensures { Numbered (row_of w) result }
 {
     let n = table_row(w);
