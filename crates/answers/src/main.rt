@@ -5,42 +5,47 @@
 ghost use Rattle.std.specs.Prelude.{◌+◌, ◌≤◌, length};
 
 use a32_digest::digest;
-use libc::{STDIN_FILENO, STDOUT_FILENO};
 use line::line;
+use std::io;
+use std::io::{BufWriter, Read, Write};
 use word::word_at;
+
+/// So much is read and no more.
+const MOST: u64 = 65_536;
 
 /// Eight bytes of an address, and four of a word.
 const RECORD: usize = 12;
 
-fn main() {
-    let mut input = io::large_buffer();
-    let n = io::read_full(STDIN_FILENO, &mut input);
-    print_lines(&input[..n]);
+fn main(rt: HostRuntime) -> io::Result<()> {
+    let mut records = Vec::new(rt.alloc());
+    rt.reader().take(MOST).read_to_end(&mut records)?;
+    let mut out = BufWriter::new(rt.alloc(), io::writer(&rt))?;
+    print_lines(&mut out, &records)?;
+    out.flush()
 }
 
-fn print_lines(records: &[u8]) {
+fn print_lines<W: Write>(out: &mut W, records: &[u8]) -> io::Result<()> {
     let mut at = 0;
     while RECORD <= records.len() - at {
-        print_line(records, at);
+        print_line(out, records, at)?;
         at += RECORD;
     }
+    Ok(())
 }
 
-fn print_line(records: &[u8], at: usize)
+fn print_line<W: Write>(out: &mut W, records: &[u8], at: usize) -> io::Result<()>
     requires { at + 12 ≤ length records.now }
 {
     let low = word_at(records, at) as u64;
     let high = word_at(records, at + 4) as u64;
-    print_answer(low + 0x1_0000_0000 * high, word_at(records, at + 8));
+    print_answer(out, low + 0x1_0000_0000 * high, word_at(records, at + 8))
 }
 
-fn print_answer(addr: u64, w: u32) {
+fn print_answer<W: Write>(out: &mut W, addr: u64, w: u32) -> io::Result<()> {
     let mut text = [0u8; 96];
     let written = line(addr, w, &mut text);
     let len = written.len;
-    io::print_hex(STDOUT_FILENO, addr, 16);
-    io::write_all(STDOUT_FILENO, b" ");
-    io::print_decimal(STDOUT_FILENO, digest(1, w, 1, addr));
-    io::write_all(STDOUT_FILENO, b" ");
-    io::write_all(STDOUT_FILENO, &text[..len]);
+    let sum = digest(1, w, 1, addr);
+    write!(out, "{addr:016x} {sum} ")?;
+    out.write_all(&text[..len])
 }
