@@ -3,9 +3,9 @@
 
 ghost use Rattle.std.specs.Prelude.{◌<◌};
 
-use libc::STDOUT_FILENO;
 use rule_places::{CALLS, COMMITS, FURTHER, NEXT, OPENS, RETURNS, TARGET};
 use rule_verdict::{Judged, UNDECIDED, VIOLATED, judge};
+use std::io;
 
 /// Leaves the state as it is, stores, makes a barrier, or makes one under a condition.
 const KEEPS: u32 = 9;
@@ -16,45 +16,41 @@ const BARRIER: u32 = 5;
 
 const MAYBE: u32 = 13;
 
-fn number(x: usize) {
-    io::write_all(STDOUT_FILENO, b" ");
-    io::print_decimal(STDOUT_FILENO, x as u64);
+fn number(rt: &impl Print, x: usize) -> io::Result<()> {
+    print!(rt; " {x}")
 }
 
-fn place(way: &[u32], i: usize) {
+fn place(rt: &impl Print, way: &[u32], i: usize) -> io::Result<()> {
     if i < way.len() {
-        number(way[i] as usize);
+        return number(rt, way[i] as usize);
     }
+    Ok(())
 }
 
-fn places(way: &[u32], n: usize) {
-    let mut i = 0;
-    while i < n {
-        place(way, i);
-        i += 1;
+fn places(rt: &impl Print, way: &[u32], n: usize) -> io::Result<()> {
+    for i in 0..n {
+        place(rt, way, i)?;
     }
+    Ok(())
 }
 
-fn answer(r: Judged, way: &[u32]) {
+fn answer(rt: &impl Print, r: Judged, way: &[u32]) -> io::Result<()> {
     if r.refusal != 0 {
-        io::write_all(STDOUT_FILENO, b"refused");
-        number(r.refusal as usize);
-        return;
+        rt.print("refused")?;
+        return number(rt, r.refusal as usize);
     }
     if r.verdict == VIOLATED {
-        io::write_all(STDOUT_FILENO, b"violated");
-        places(way, r.number);
-        return;
+        rt.print("violated")?;
+        return places(rt, way, r.number);
     }
     if r.verdict == UNDECIDED {
-        io::write_all(STDOUT_FILENO, b"undecided");
-        number(r.number);
-        return;
+        rt.print("undecided")?;
+        return number(rt, r.number);
     }
-    io::write_all(STDOUT_FILENO, b"holds");
+    rt.print("holds")
 }
 
-fn show(flags: &[u32; 10], further: &[u32]) {
+fn show(rt: &impl Print, flags: &[u32; 10], further: &[u32]) -> io::Result<()> {
     let targets = [6u32; 10];
     let entries = [0u32; 1];
     let mut known = [0xffff_ffff; 2];
@@ -64,8 +60,8 @@ fn show(flags: &[u32; 10], further: &[u32]) {
     let r = judge(
         flags, &targets, further, &entries, &mut known, &mut dist, &mut from, &mut way,
     );
-    answer(r, &way);
-    io::write_all(STDOUT_FILENO, b"\n");
+    answer(rt, r, &way)?;
+    rt.print("\n")
 }
 
 /// The routine at 0 calls that at 6, passes a barrier, calls it again, and commits at 3. The routine at 6 does `first`, then `last` and returns.
@@ -86,31 +82,31 @@ fn twice(first: u32, last: u32) -> [u32; 10]
     ]
 }
 
-fn main() {
+fn main(rt: HostRuntime) -> io::Result<()> {
     let none = [0u32; 0];
     // The routine stores nothing: it returns clean where it was called clean, and dirty to the other call alone.
-    show(&twice(KEEPS, KEEPS), &none);
+    show(&rt, &twice(KEEPS, KEEPS), &none)?;
     // It stores.
-    show(&twice(STORES, KEEPS), &none);
+    show(&rt, &twice(STORES, KEEPS), &none)?;
     // It stores, may call itself, and passes a barrier before it returns.
-    show(&twice(STORES + TARGET + CALLS, BARRIER), &none);
+    show(&rt, &twice(STORES + TARGET + CALLS, BARRIER), &none)?;
     // The same with the barrier under a condition.
-    show(&twice(STORES + TARGET + CALLS, MAYBE), &none);
+    show(&rt, &twice(STORES + TARGET + CALLS, MAYBE), &none)?;
     // Its end is open.
-    show(&twice(KEEPS, KEEPS + OPENS), &none);
+    show(&rt, &twice(KEEPS, KEEPS + OPENS), &none)?;
     // A switch at 6: to its end, and to a place that commits.
     let switch = [6u32, 7, 6, 3];
-    show(&twice(KEEPS + FURTHER, KEEPS), &switch);
+    show(&rt, &twice(KEEPS + FURTHER, KEEPS), &switch)?;
     // A pair that names a place outside.
     let outside = [6u32, 10];
-    show(&twice(KEEPS, KEEPS), &outside);
+    show(&rt, &twice(KEEPS, KEEPS), &outside)?;
     // The barrier is in the routine.
     let mut inner = twice(KEEPS, KEEPS);
     inner[1] = KEEPS + NEXT;
     inner[6] = BARRIER + NEXT;
-    show(&inner, &none);
+    show(&rt, &inner, &none)?;
     // And both calls are under a condition.
     inner[0] = KEEPS + NEXT + TARGET + CALLS;
     inner[2] = KEEPS + NEXT + TARGET + CALLS;
-    show(&inner, &none);
+    show(&rt, &inner, &none)
 }
