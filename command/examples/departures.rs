@@ -39,7 +39,7 @@ fn main() -> ExitCode {
     }
 }
 
-/// The list of refused rows: the texts in quotes between `refusedRows =` and the end of the list.
+/// The list of refused rows: the texts in quotes between `refused_rows =` and the end of the list.
 fn refused_rows() -> Result<Vec<String>, String> {
     let pages = fs::read_to_string(PAGES).map_err(|error| format!("{PAGES}: {error}"))?;
     let list = pages
