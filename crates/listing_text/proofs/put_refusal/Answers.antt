@@ -1,0 +1,6 @@
+-- `listed::put_refusal` meets its contract. Assumes nothing.
+use Rattle.text.proofs.Writing.{◌then◌}
+use Rattle.listing_text.proofs.put_refusal.Goals as goal
+
+pub returns : goal.returns
+returns c = c.put_refused-at.ensures then c.put_byte.ensures
