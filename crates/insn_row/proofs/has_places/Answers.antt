@@ -2,10 +2,10 @@
 use mathlib.Core.Path.{◌≡◌, refl, subst}
 use mathlib.Core.Bool.{Bool, true, false}
 use mathlib.Core.List.{List}
-use Prim.Native.Nat.{ℕ, suc, ◌+◌, ◌*◌, ◌-◌, ◌<◌, ◌≤◌}
+use Prim.Native.Nat.{ℕ, suc, ◌+◌, ◌*◌, ◌<◌}
 use native.Mathlib.Omega.{arith}
-use lib.ListN.{length, take, drop, length-map}
-use Rattle.insn.specs.Answer.{PLACES, place_at}
+use lib.ListN.{length, take, drop}
+use Rattle.insn.specs.Answer.{place_at}
 use Rattle.insn.specs.declared.Place.{Place}
 use Rattle.insn.proofs.Places.{one_more, in_turn}
 use Rattle.insn_row.specs.Row.{operand_row, places_row, Told}

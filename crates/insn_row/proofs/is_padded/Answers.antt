@@ -1,8 +1,7 @@
 -- `row::is_padded` meets its contract: a row that is too short has the numbers of the one that is compared in its place. Assumes nothing.
-use mathlib.Core.Path.{◌≡◌, ◌∙◌}
+use mathlib.Core.Path.{◌∙◌}
 use native.Mathlib.Omega.{arith}
-use lib.ListN.{length, length-map}
-use Rattle.insn_row.specs.Row.{ROW, row_of}
+use Rattle.insn_row.specs.Row.{row_of}
 use Rattle.insn_row.proofs.Holds.{alike}
 use Rattle.insn_row.proofs.Sizes.{row_size}
 use Rattle.insn_row.proofs.is_padded.Goals as goal

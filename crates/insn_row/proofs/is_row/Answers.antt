@@ -1,8 +1,5 @@
 -- `row::is_row` meets its contract. Assumes nothing.
-use mathlib.Core.Path.{◌≡◌}
 use native.Mathlib.Omega.{arith}
-use lib.ListN.{length, length-map}
-use Rattle.insn_row.specs.Row.{ROW, row_of}
 use Rattle.insn_row.proofs.Sizes.{row_size}
 use Rattle.insn_row.proofs.is_row.Goals as goal
 

@@ -1,13 +1,9 @@
 -- `row::put_places` meets its contract. The loop's invariant: the places passed are written. Assumes nothing.
-use mathlib.Core.Path.{◌≡◌, refl, ◌∙◌}
-use Prim.Native.Nat.{◌-◌, ◌≤◌}
+use mathlib.Core.Path.{refl, ◌∙◌}
 use native.Mathlib.Omega.{arith}
-use lib.ListN.{length, take, length-map}
-use Rattle.insn.specs.Answer.{PLACES}
 use Rattle.insn.proofs.Places.{one_more, one_fits}
-use Rattle.text.specs.Put.{Put}
 use Rattle.text.proofs.Writing.{none, ◌then◌}
-use Rattle.insn_row.specs.Row.{operand_row, places_row}
+use Rattle.insn_row.specs.Row.{operand_row}
 use Rattle.insn_row.proofs.put_places.Goals as goal
 
 pub loop-n-init : goal.loop-n-init

@@ -1,7 +1,7 @@
 -- `row::put_row` meets its contract. Assumes nothing.
-use Rattle.std.proofs.Common.{◌≡◌, arith, length}
+use Rattle.std.proofs.Common.{arith}
 use Rattle.text.proofs.Settled.{fits, no_room}
-use Rattle.insn_row.specs.Row.{ROW, row_of}
+use Rattle.insn_row.specs.Row.{row_of}
 use Rattle.insn_row.proofs.Sizes.{row_size}
 use Rattle.insn_row.proofs.put_row.Goals as goal
 
