@@ -22,13 +22,12 @@ use Rattle.a32_shared.specs.Row.{reg_of, answer}
 use Rattle.a32_dp.specs.Names as Names
 use Rattle.a32_dp.specs.Names.{dp_name}
 use Rattle.insn_parts.specs.Operands.{operand_flat}
-use Rattle.encode_home.specs.declared.Filler.{Filler}
-use Rattle.encode_home.specs.declared.Filler.TheVariants.{Manual, Zeros}
+use Rattle.encode_home.specs.declared.Filler.TheVariants.{Zeros}
 use Rattle.encode_home.specs.Table.{Put, zeros}
 use Rattle.encode_home.specs.Home.{puts_of, put_all}
 use Rattle.encode_home.specs.Word.{word_of}
 use Rattle.encode_home.specs.WordDp.{operation, setting, source12, immediate, is_indirect, layout}
-use Rattle.encode_home.proofs.Leads.{apart, Back, bit_cases, starts, ends, over, under}
+use Rattle.encode_home.proofs.Leads.{apart, Back, bit_cases, starts, ends, under}
 use Rattle.encode_home.proofs.Puts.{laid}
 
 -- an operation's name, by 24:21 and S

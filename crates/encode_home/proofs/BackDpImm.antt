@@ -15,7 +15,7 @@ use Rattle.a32_imm.specs.Imm.{least_of, imm_of}
 use Rattle.a32_dp.specs.Names.{dp_name}
 use Rattle.a32_dp.specs.DpImm.{dp_imm_of, hint_slot, msr_of, to_pc}
 use Rattle.encode_home.specs.declared.Filler.{Filler}
-use Rattle.encode_home.specs.declared.Filler.TheVariants.{Manual, Zeros}
+use Rattle.encode_home.specs.declared.Filler.TheVariants.{Zeros}
 use Rattle.encode_home.specs.Table.{Put, zeros, filled, drawn, number}
 use Rattle.encode_home.specs.Home.{puts_of, put_all}
 use Rattle.encode_home.specs.Word.{word_of}

@@ -13,8 +13,7 @@ use Rattle.a32_ldst.specs.ExtraLdst.{imm8, subtracted_index_of, extra_ldst_of}
 use Rattle.a32_ldst.specs.Mem.{unprivileged_of, mode_of, disp_of, minus_zero_of}
 use Rattle.insn_parts.specs.Operands.{sign_number, mark_number}
 use Rattle.insn_parts.specs.Parts.{bit_u, bit_w}
-use Rattle.encode_home.specs.declared.Filler.{Filler}
-use Rattle.encode_home.specs.declared.Filler.TheVariants.{Manual, Zeros}
+use Rattle.encode_home.specs.declared.Filler.TheVariants.{Zeros}
 use Rattle.encode_home.specs.Table.{zeros}
 use Rattle.encode_home.specs.Home.{puts_of}
 use Rattle.encode_home.specs.Word.{word_of}

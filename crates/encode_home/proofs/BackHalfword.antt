@@ -11,8 +11,7 @@ use Rattle.word.specs.Layout.{join, whole}
 use Rattle.insn.specs.Roots.{name}
 use Rattle.a32_multiply.specs.Halfword.{half_of, halves_of, halfword_of}
 use Rattle.a32_multiply.specs.Multiply.{product_of, adding_of, long_of}
-use Rattle.encode_home.specs.declared.Filler.{Filler}
-use Rattle.encode_home.specs.declared.Filler.TheVariants.{Manual, Zeros}
+use Rattle.encode_home.specs.declared.Filler.TheVariants.{Zeros}
 use Rattle.encode_home.specs.Table.{zeros}
 use Rattle.encode_home.specs.Home.{puts_of}
 use Rattle.encode_home.specs.Word.{word_of}

@@ -15,8 +15,7 @@ use Rattle.a32_ldst.specs.Mem.{unprivileged_of, mode_of, post_of, disp_of, minus
 use Rattle.a32_ldst.specs.Ldst.{name_of, refused_index_of, marked_of, ldst_of}
 use Rattle.insn_parts.specs.Operands.{sign_number, mark_number}
 use Rattle.insn_parts.specs.Parts.{bit_p, bit_u}
-use Rattle.encode_home.specs.declared.Filler.{Filler}
-use Rattle.encode_home.specs.declared.Filler.TheVariants.{Manual, Zeros}
+use Rattle.encode_home.specs.declared.Filler.TheVariants.{Zeros}
 use Rattle.encode_home.specs.Table.{ones}
 use Rattle.encode_home.specs.Home.{puts_of}
 use Rattle.encode_home.specs.Word.{word_of}

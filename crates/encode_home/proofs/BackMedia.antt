@@ -21,8 +21,7 @@ use Rattle.insn.specs.declared.Operand.TheVariants.{Register}
 use Rattle.insn.specs.declared.Reg.{Reg}
 use Rattle.a32_media.specs.Media.{media_of, udf_of, bfx_of, bf_of, div_of, ssat_of, usat_of, sat_or, sat_shift_of, rev_of, rotate_of, extend_of, rev_or_extend_of}
 use Rattle.insn_parts.specs.Operands.{operand_flat}
-use Rattle.encode_home.specs.declared.Filler.{Filler}
-use Rattle.encode_home.specs.declared.Filler.TheVariants.{Manual, Zeros}
+use Rattle.encode_home.specs.declared.Filler.TheVariants.{Zeros}
 use Rattle.encode_home.specs.Table.{Put, filled}
 use Rattle.encode_home.specs.Home.{puts_of, put_all}
 use Rattle.encode_home.specs.Word.{word_of}

@@ -6,8 +6,7 @@ use Rattle.word.specs.Field.{field, put}
 use Rattle.word.specs.Layout.{join, whole, upper, lower}
 use Rattle.a32_misc.specs.Misc.{source_of, misc_of}
 use Rattle.insn_parts.specs.Operands.{operand_flat}
-use Rattle.encode_home.specs.declared.Filler.{Filler}
-use Rattle.encode_home.specs.declared.Filler.TheVariants.{Manual, Zeros}
+use Rattle.encode_home.specs.declared.Filler.TheVariants.{Zeros}
 use Rattle.encode_home.specs.Table.{Put, zeros, filled}
 use Rattle.encode_home.specs.Home.{puts_of}
 use Rattle.encode_home.specs.Word.{word_of}

@@ -7,8 +7,7 @@ use Rattle.word.specs.Field.{field, put, splits}
 use Rattle.word.specs.Layout.{join, whole}
 use Rattle.a32_multiply.specs.Multiply.{multiply_of}
 use Rattle.a32_multiply.specs.Sync.{sync_of}
-use Rattle.encode_home.specs.declared.Filler.{Filler}
-use Rattle.encode_home.specs.declared.Filler.TheVariants.{Manual, Zeros}
+use Rattle.encode_home.specs.declared.Filler.TheVariants.{Zeros}
 use Rattle.encode_home.specs.Table.{Put, zeros, filled}
 use Rattle.encode_home.specs.Home.{puts_of, put_all}
 use Rattle.encode_home.specs.Word.{word_of}

@@ -16,7 +16,7 @@ use Rattle.a32_transfer.specs.Unconditional.{barrier_slot, preload_slot, uncondi
 use Rattle.insn_parts.specs.Operands.{sign_number}
 use Rattle.insn_parts.specs.Parts.{up}
 use Rattle.encode_home.specs.declared.Filler.{Filler}
-use Rattle.encode_home.specs.declared.Filler.TheVariants.{Manual, Zeros}
+use Rattle.encode_home.specs.declared.Filler.TheVariants.{Zeros}
 use Rattle.encode_home.specs.Table.{filled, drawn, number, ones}
 use Rattle.encode_home.specs.Home.{puts_of}
 use Rattle.encode_home.specs.Word.{word_of}

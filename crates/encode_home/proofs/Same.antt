@@ -34,7 +34,7 @@ use Rattle.encode_home.proofs.BackMedia.{media_settles}
 use Rattle.encode_home.proofs.BackMisc.{misc_settles}
 use Rattle.encode_home.proofs.BackMultiply.{multiply_settles, sync_settles}
 use Rattle.encode_home.proofs.BackUnconditional.{unconditional_settles}
-use Rattle.encode_home.proofs.Leads.{Settles, refuses, settles, leads_to, bit_cases, two_cases, never, refusal}
+use Rattle.encode_home.proofs.Leads.{Settles, refuses, settles, leads_to, bit_cases, two_cases, never}
 use Rattle.encode_home.proofs.Puts.{all, good, all_good, disjoint, put_all_small, refilled, keeps_condition, low, keeps_upper, keeps_middle, keeps_top}
 use Rattle.encode_home.proofs.Puts.{keeps_bottom}
 
