@@ -16,7 +16,7 @@ use Rattle.a32_elsewhere.proofs.Elsewhere.{keeps_address}
 use Rattle.encode_home.specs.declared.Filler.{Filler}
 use Rattle.encode_home.specs.Home.{home_of}
 use Rattle.encode_home.proofs.Leads.{refusal}
-use Rattle.encode_home.proofs.Same.{home_decodes, home_small}
+use Rattle.encode_home.proofs.Same.{home_decodes}
 use Rattle.insn_same.specs.Same.{same_of}
 use Rattle.insn_same.proofs.Exact.{same_is}
 use Rattle.encode.specs.declared.Encoded.{Encoded}
