@@ -1,0 +1,11 @@
+-- `brassdozen::brassdozen_listing` meets its contract. Assumes nothing.
+use native.Mathlib.Omega.{arith}
+use Rattle.listing_text.specs.Listing.{listing_of}
+use Rattle.listing_text.proofs.Enough.{listing_fits}
+use Rattle.brassdozen.proofs.From.{no_longer}
+use Rattle.brassdozen.proofs.brassdozen_listing.Goals as goal
+
+pub overflow_cast-w : goal.overflow_cast-w
+overflow_cast-w c =
+    let short = no_longer (listing_of c.args.section.now) c.args.out.now c.listing-w.ensures.value in
+    record { fits = omega (arith, short, listing_fits c.args.section.now) }
