@@ -5,18 +5,11 @@ use mathlib.Core.List.{List, []}
 use Prim.Native.Nat.{ℕ}
 use native.Mathlib.Omega.{arith}
 use lib.ListN.{length}
-use Rattle.section.proofs.Places.{Stands, nothing}
+use Rattle.section.proofs.Places.{nothing}
 use Rattle.section.proofs.Fold.{ends}
 use Rattle.listing_text.specs.Listing.{add_line, named_here, data_here, adding}
 use Rattle.listing_text.proofs.Grow.{one_named, one_data, count_small, lines_small}
 use Rattle.listing_text.proofs.lines_len.Goals as goal
-use Rattle.listing_text.proofs.lines_len.Lts as lts
-use Rattle.listing_text.proofs.lines_len.Reads as reads
-use Rattle.listing_text.proofs.lines_len.Tie as tie
-
--- something stands at the place
-stands : (c : lts.Else1 tie.the-claims reads.Pre reads.Post goal.the-invariant-loop-opened goal.the-decreases-loop-opened tie.handed_clauses) → Stands c.read-step.result.here
-stands c = sym c.is_end.ensures ∙ c.if-is_end.false
 
 pub returns-then-is_end-clause-at_value : goal.returns-then-is_end-clause-at_value
 returns-then-is_end-clause-at_value c =
@@ -40,7 +33,7 @@ pub add_here-lines-requires : goal.add_here-lines-requires
 add_here-lines-requires c =
     let now = c.loop-opened in
     let found = c.read-step.ensures in
-    let some = stands c.before in (
+    let some = sym c.is_end.ensures ∙ c.if-is_end.false in (
       omega (arith, now.invariant.1, count_small _ now.place found some named_here one_named),
       omega (arith, now.invariant.2, count_small _ now.place found some data_here one_data),
       omega (arith, now.invariant.0, lines_small _ now.place found some),

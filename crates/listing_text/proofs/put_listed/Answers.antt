@@ -15,10 +15,8 @@ put_lines-lines-requires-clause-room c =
 
 pub put_closing-requires-clause-pool_bound : goal.put_closing-requires-clause-pool_bound
 put_closing-requires-clause-pool_bound c =
-    let header = c.put_header-at in
-    let lines = c.put_lines-lines in
-    let section = c.args.section.now in
-    rw (lines.ensures.named_value, lines.ensures.pool_value) (counted section c.requires.opened_value)
+    let lines = c.put_lines-lines.ensures in
+    omega (arith, counted c.args.section.now c.requires.opened_value, lines.named_value, lines.pool_value)
 
 pub put_closing-requires-clause-room : goal.put_closing-requires-clause-room
 put_closing-requires-clause-room c =
