@@ -24,7 +24,7 @@ module _ (w addr : ℕ) {d : Decoded} (is : d ≡ decode_of w addr) where
 
 pub count_named-requires : goal.count_named-requires
 count_named-requires c =
-    (omega (arith, c.raise.auto.counts), small _ _ c.decode-d.ensures c.if-d-eq0.true)
+    (omega (arith, c.raise.auto.counts), small _ _ c.decode-d.ensures (omega arith))
 
 pub raise-requires-else-d-eq0 : goal.raise-requires-else-d-eq0
 raise-requires-else-d-eq0 c = (

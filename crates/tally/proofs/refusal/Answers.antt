@@ -1,4 +1,5 @@
 -- `tally::refusal` meets its contract. Assumes nothing.
+use Rattle.std.proofs.Common.{arith}
 use Rattle.tally.proofs.Answers.{its_own, too_short, too_many, goes_in}
 use Rattle.tally.proofs.refusal.Goals as goal
 
@@ -12,4 +13,4 @@ pub returns-then-counts-ge-MOST_SECTIONS : goal.returns-then-counts-ge-MOST_SECT
 returns-then-counts-ge-MOST_SECTIONS c = too_many _ _ c.if-own-ne0.false c.if-counts-lt-COUNTS.false c.if-counts-ge-MOST_SECTIONS.true
 
 pub returns : goal.returns
-returns c = goes_in _ _ c.if-own-ne0.false c.if-counts-lt-COUNTS.false c.if-counts-ge-MOST_SECTIONS.false
+returns c = goes_in _ _ c.if-own-ne0.false c.if-counts-lt-COUNTS.false (omega arith)
