@@ -4,19 +4,12 @@ use mathlib.Core.Path.{refl, ap, sym, ◌∙◌}
 use mathlib.Core.List.{List, []}
 use native.Mathlib.Omega.{arith}
 use lib.ListN.{length}
-use Rattle.section.proofs.Places.{Stands, nothing}
+use Rattle.section.proofs.Places.{nothing}
 use Rattle.section.proofs.Fold.{upto, moves, goes_on, ends}
 use Rattle.callers_index.specs.declared.Entry.{Entry}
 use Rattle.callers_index.proofs.Updating.{one_at_most, entered_length}
 use Rattle.callers.specs.Calls.{callee_here, address_here, add_here, index_of}
 use Rattle.callers.proofs.calls_len.Goals as goal
-use Rattle.callers.proofs.calls_len.Lts as lts
-use Rattle.callers.proofs.calls_len.Reads as reads
-use Rattle.callers.proofs.calls_len.Tie as tie
-
--- something stands at the place
-stands : (c : lts.Else1 tie.the-claims reads.Pre reads.Post goal.the-invariant-loop-opened goal.the-decreases-loop-opened) → Stands c.read-step.result.here
-stands c = sym c.is_end.ensures ∙ c.if-is_end.false
 
 pub returns-then-is_end : goal.returns-then-is_end
 unfolding index_of
@@ -29,7 +22,7 @@ loop-opened-preserved c =
     let now = c.loop-opened in
     let found = c.read-step.ensures in
     let here = c.read-step.result.here in
-    let some = stands c.before.before in
+    let some = sym c.is_end.ensures ∙ c.if-is_end.false in
     let section = c.args.section.now in
     let one = entered_length (address_here here) (callee_here here) (upto add_here [] section now.place) in (
       rw (goes_on _ _ found refl some add_here [])
