@@ -1,7 +1,8 @@
 -- `home_form::rewrite` meets its contract.
 -- The loop's invariant: the words before `place` are at home, and those that changed are listed. Assumes nothing.
 use mathlib.Core.Path.{◌≡◌, refl, sym, ap, ◌∙◌}
-use Prim.Native.Nat.{ℕ, ◌<◌}
+use mathlib.Core.List.{List}
+use Prim.Native.Nat.{ℕ, ◌<◌, ◌≤◌}
 use native.Mathlib.Omega.{arith}
 use Rattle.text.specs.Text.{written}
 use Rattle.text.proofs.Writing.{none}
@@ -12,39 +13,35 @@ use Rattle.home_form.specs.Home.{gathered}
 use Rattle.home_form.specs.Changes.{changes_at, changes_of, numbers_of}
 use Rattle.home_form.proofs.Rewriting.{rewritten, none_yet, all_done, opened_same, rewrites, lists, fits}
 use Rattle.home_form.proofs.rewrite.Goals as goal
-use Rattle.home_form.proofs.rewrite.Lts as lts
-use Rattle.home_form.proofs.rewrite.Reads as reads
-use Rattle.home_form.proofs.rewrite.Tie as tie
 
 -- at the loop's test the section is opened to the same, and where it goes on there is a word
-still : (c : lts.At-loop tie.the-claims reads.Pre reads.Post goal.the-invariant-loop-place goal.the-decreases-loop-place tie.handed_clauses) → c.args.opened ≡ opened_of c.loop-place.section
-still c =
-    c.requires.opened_value.0 ∙ sym (ap opened_of c.loop-place.invariant.1 ∙ opened_same c.args.section.now c.loop-place.place c.loop-place.invariant.0)
+still : (s : List ℕ) {now : List ℕ} {o : Opened} (place : ℕ) → o ≡ opened_of s → now ≡ rewritten s place → place ≤ (opened_of s).count → o ≡ opened_of now
+still s place opened is low = opened ∙ sym (ap opened_of is ∙ opened_same s place low)
 
-inside : (c : goal.In-loop-place) → c.loop-place.place < (opened_of c.args.section.now).count
-inside c = omega (arith, c.loop-place-test.true, ap (λ (o : Opened). o.count) c.requires.opened_value.0)
+inside : (s : List ℕ) {o : Opened} {place : ℕ} → o ≡ opened_of s → place < o.count → place < (opened_of s).count
+inside s opened h = omega (arith, h, ap (λ (o : Opened). o.count) opened)
 
 pub loop-place-init : goal.loop-place-init
 loop-place-init c = (omega arith, none_yet _, refl, refl, none _ 0)
 
 pub read-step-requires : goal.read-step-requires
-read-step-requires c = still c.before
+read-step-requires c = still c.args.section.now c.loop-place.place c.requires.opened_value.0 c.loop-place.invariant.1 c.loop-place.invariant.0
 
 pub replace-requires : goal.replace-requires
 replace-requires c =
-    (still c.before.before.before.before, omega (arith, c.loop-place-test.true))
+    (still c.args.section.now c.loop-place.place c.requires.opened_value.0 c.loop-place.invariant.1 c.loop-place.invariant.0, omega (arith, c.loop-place-test.true))
 
 pub put_change-at-requires : goal.put_change-at-requires
 put_change-at-requires c =
     let now = c.loop-place in
-    fits c.args.section.now now.place (inside c.before.before.before.before.before.before.before.before) now.invariant.1 c.read-step.ensures c.change_at-change.ensures now.invariant.4
+    fits c.args.section.now now.place (inside c.args.section.now c.requires.opened_value.0 (omega (arith, c.loop-place-test.true))) now.invariant.1 c.read-step.ensures c.change_at-change.ensures now.invariant.4
     now.invariant.3 c.requires.section_in_bounds
 
 pub loop-place-preserved : goal.loop-place-preserved
 loop-place-preserved c =
     let now = c.loop-place in
     let s = c.args.section.now in
-    let here = inside c.before.before.before.before.before.before.before.before.before.before.before in (
+    let here : now.place < (opened_of s).count = inside c.args.section.now c.requires.opened_value.0 (omega (arith, c.loop-place-test.true)) in (
       omega arith,
       rewrites s now.place here now.invariant.1 c.read-step.ensures c.change_at-change.ensures c.replace.ensures,
       c.replace.auto.bytes ∙ now.invariant.2,
