@@ -8,7 +8,8 @@ use mathlib.Core.Logic.{◌↔◌, ◌⊎◌}
 use Prim.Native.Nat.{ℕ, ◌+◌, ◌*◌, ◌^◌, ◌<◌, ◌≤◌}
 use borrow.Author.Tests.{ne_eqb, lt-ltb, le-ltb}
 use base.Fml.{Lft}
-use denote.Ref.{Bor}
+use denote.Bor.{Bor}
+use denote.MutBor.{MutBor, as_bor}
 use lib.ListN.{length, take, drop, get_or}
 use Rattle.word.specs.Bytes.{word_at}
 use Rattle.word.specs.Field.{field}
@@ -74,7 +75,7 @@ use Rattle.rule_runs.specs.Runs.{Program, Verdict.violated, Verdict.undecided, V
 use Rattle.rule_verdict.specs.Verdicts.{HOLDS, VIOLATED, UNDECIDED}
 use Rattle.rule_verdict.specs.Verdicts as Rule
 use Rattle.rule_verdict.specs.declared.Judged.{Judged}
-use Rattle.brassdozen.specs.Given.{Answers, here_row, WalksForC, found_for_c, BuildsForC, ReplacesForC, FindsForC, PutsHomeForC, JudgesForC}
+use Rattle.brassdozen.specs.Given.{Answers, here_row, encoded_of, WalksForC, found_for_c, BuildsForC, ReplacesForC, FindsForC, PutsHomeForC, JudgesForC}
 use Rattle.a32.proofs.decode as decode
 use Rattle.a32.proofs.decode_bytes as decode_bytes
 use Rattle.encode.proofs.encode as encode
@@ -129,7 +130,7 @@ use Rattle.home_form.proofs.Kept as HomeForms
 use Rattle.home_form.proofs.Left as Homing
 use Rattle.walk.proofs.Kept as Walking
 use Rattle.tally.proofs.Answers as Answered
-use Rattle.tally.proofs.Lent as Lent
+use Rattle.tally.proofs.Lent as Tallying
 use Rattle.tally.proofs.Tallied as Tallied
 use Rattle.tally.proofs.Sums as Sums
 use Rattle.tally.proofs.Order as Order
@@ -157,9 +158,12 @@ use Rattle.promises.proofs.Unindexed as Unindexed
 abbrev Word : ℕ → Type 0
 Word w = w < 2 ^ 32
 
--- what is lent: `now` is what stands in it
+-- what is lent to be read, and what is lent to be written: `now` is what stands in it
 abbrev Slice : Type 0
 Slice = Bor (List ℕ)
+
+abbrev Lent : Type 0
+Lent = MutBor (List ℕ)
 
 -- an answer that is no refusal
 abbrev Accepts : Decoded → Type 0
@@ -215,16 +219,16 @@ module _ (κ κ' : Lft) where
   abbrev Opens : (bytes : Slice) → Opened → Type 0
   Opens bytes o = open_section.Reads.Post (κ, tt) (bytes, tt) o (bytes, tt)
 
-  abbrev WritesLine : (addr w : ℕ) (out : Slice) → Written → (out' : Slice) → Type 0
+  abbrev WritesLine : (addr w : ℕ) (out : Lent) → Written → (out' : Lent) → Type 0
   WritesLine addr w out r out' = line.Reads.Post (κ, tt) (addr, (w, (out, tt))) r (addr, (w, (out', tt)))
 
-  abbrev WritesListing : (section out : Slice) → Written → (out' : Slice) → Type 0
+  abbrev WritesListing : (section : Slice) (out : Lent) → Written → (out' : Lent) → Type 0
   WritesListing section out r out' = listing.Reads.Post (κ, (κ', tt)) (section, (out, tt)) r (section, (out', tt))
 
-  abbrev Converts : (section : Slice) → Target → (out : Slice) → Written → (out' : Slice) → Type 0
+  abbrev Converts : (section : Slice) → Target → (out : Lent) → Written → (out' : Lent) → Type 0
   Converts section target out r out' = convert.Reads.Post (κ, (κ', tt)) (section, (target, (out, tt))) r (section, (target, (out', tt)))
 
-  abbrev WalksFrom : (section : Slice) (entry : ℕ) (out : Slice) → Walked → (out' : Slice) → Type 0
+  abbrev WalksFrom : (section : Slice) (entry : ℕ) (out : Lent) → Walked → (out' : Lent) → Type 0
   WalksFrom section entry out r out' = walk.Reads.Post (κ, (κ', tt)) (section, (entry, (out, tt))) r (section, (entry, (out', tt)))
 
   abbrev Adds : (t : Tally) (section : Slice) → Added → Type 0
@@ -249,29 +253,29 @@ module _ (κ κ' : Lft) where
       run_refusal.Reads.Post (κ, (κ', tt)) (section, (base, (patch, (over, (addr, (len, tt)))))) n
       (section, (base, (patch, (over, (addr, (len, tt))))))
 
-  abbrev WritesPatched : (section patch out : Slice) → Written → (out' : Slice) → Type 0
+  abbrev WritesPatched : (section patch : Slice) (out : Lent) → Written → (out' : Lent) → Type 0
   WritesPatched section patch out r out' = patched.Reads.Post (κ, (κ', tt)) (section, (patch, (out, tt))) r (section, (patch, (out', tt)))
 
-  abbrev BuildsIndex : (section index : Slice) → Indexed → (index' : Slice) → Type 0
+  abbrev BuildsIndex : (section : Slice) (index : Lent) → Indexed → (index' : Lent) → Type 0
   BuildsIndex section index r index' = build.Reads.Post (κ, (κ', tt)) (section, (index, tt)) r (section, (index', tt))
 
-  abbrev ReplacesWord : (section : Slice) (place w : ℕ) (index : Slice) (count : ℕ) → Indexed → (section' index' : Slice) → Type 0
+  abbrev ReplacesWord : (section : Lent) (place w : ℕ) (index : Lent) (count : ℕ) → Indexed → (section' index' : Lent) → Type 0
   ReplacesWord section place w index count r section' index' =
       replace.Reads.Post (κ, (κ', tt)) (section, (place, (w, (index, (count, tt))))) r (section', (place, (w, (index', (count, tt)))))
 
-  abbrev FindsCallers : (index : Slice) (count target : ℕ) (out : Slice) → Written → (out' : Slice) → Type 0
+  abbrev FindsCallers : (index : Slice) (count target : ℕ) (out : Lent) → Written → (out' : Lent) → Type 0
   FindsCallers index count target out r out' =
       callers.Reads.Post (κ, (κ', tt)) (index, (count, (target, (out, tt)))) r (index, (count, (target, (out', tt))))
 
-  abbrev PutsInHomeForm : (section list : Slice) → Changed → (section' list' : Slice) → Type 0
+  abbrev PutsInHomeForm : (section list : Lent) → Changed → (section' list' : Lent) → Type 0
   PutsInHomeForm section list r section' list' = home_form.Reads.Post (κ, (κ', tt)) (section, (list, tt)) r (section', (list', tt))
 
   -- and those for C and Rust
 
-  abbrev DecodesToRow : (w addr : ℕ) (row : Slice) → ℕ → (row' : Slice) → Type 0
+  abbrev DecodesToRow : (w addr : ℕ) (row : Lent) → ℕ → (row' : Lent) → Type 0
   DecodesToRow w addr row n row' = c_decode.Reads.Post (κ, tt) (w, (addr, (row, tt))) n (w, (addr, (row', tt)))
 
-  abbrev DecodesBytesToRow : (bytes : Slice) (addr : ℕ) (row : Slice) → ℕ → (row' : Slice) → Type 0
+  abbrev DecodesBytesToRow : (bytes : Slice) (addr : ℕ) (row : Lent) → ℕ → (row' : Lent) → Type 0
   DecodesBytesToRow bytes addr row n row' = c_decode_bytes.Reads.Post (κ, (κ', tt)) (bytes, (addr, (row, tt))) n (bytes, (addr, (row', tt)))
 
   -- by a function of its own for each filler
@@ -283,47 +287,47 @@ module _ (κ κ' : Lft) where
   HasHomeForC Manual w p = c_home.Reads.Post tt (w, tt) p (w, tt)
   HasHomeForC Zeros w p = c_home_zeros.Reads.Post tt (w, tt) p (w, tt)
 
-  abbrev WritesLineForC : (addr w : ℕ) (out : Slice) → ℕ → (out' : Slice) → Type 0
+  abbrev WritesLineForC : (addr w : ℕ) (out : Lent) → ℕ → (out' : Lent) → Type 0
   WritesLineForC addr w out p out' = c_line.Reads.Post (κ, tt) (addr, (w, (out, tt))) p (addr, (w, (out', tt)))
 
-  abbrev WritesListingForC : (section out : Slice) → ℕ → (out' : Slice) → Type 0
+  abbrev WritesListingForC : (section : Slice) (out : Lent) → ℕ → (out' : Lent) → Type 0
   WritesListingForC section out p out' = c_listing.Reads.Post (κ, (κ', tt)) (section, (out, tt)) p (section, (out', tt))
 
-  abbrev GivesPlaceForC : (section : Slice) (place : ℕ) (out : Slice) → ℕ → (out' : Slice) → Type 0
+  abbrev GivesPlaceForC : (section : Slice) (place : ℕ) (out : Lent) → ℕ → (out' : Lent) → Type 0
   GivesPlaceForC section place out n out' = c_place.Reads.Post (κ, (κ', tt)) (section, (place, (out, tt))) n (section, (place, (out', tt)))
 
-  abbrev ConvertsForC : Target → (section out : Slice) → ℕ → (out' : Slice) → Type 0
+  abbrev ConvertsForC : Target → (section : Slice) (out : Lent) → ℕ → (out' : Lent) → Type 0
   ConvertsForC One section out p out' = c_to_v1.Reads.Post (κ, (κ', tt)) (section, (out, tt)) p (section, (out', tt))
   ConvertsForC Two section out p out' = c_to_v2.Reads.Post (κ, (κ', tt)) (section, (out, tt)) p (section, (out', tt))
 
-  abbrev WalksFromForC : (section : Slice) (entry : ℕ) (out : Slice) → ℕ → (out' : Slice) → Type 0
+  abbrev WalksFromForC : (section : Slice) (entry : ℕ) (out : Lent) → ℕ → (out' : Lent) → Type 0
   WalksFromForC section entry out p out' = c_walk.Reads.Post (κ, (κ', tt)) (section, (entry, (out, tt))) p (section, (entry, (out', tt)))
 
-  abbrev AddsForC : (section counts : Slice) → ℕ → (counts' : Slice) → Type 0
+  abbrev AddsForC : (section : Slice) (counts : Lent) → ℕ → (counts' : Lent) → Type 0
   AddsForC section counts n counts' = c_tally.Reads.Post (κ, (κ', tt)) (section, (counts, tt)) n (section, (counts', tt))
 
   abbrev FindsRunForC : (section : Slice) (base : ℕ) (patch : Slice) (over addr len : ℕ) → ℕ → Type 0
   FindsRunForC section base patch over addr len p =
       c_run.Reads.Post (κ, (κ', tt)) (section, (base, (patch, (over, (addr, (len, tt)))))) p (section, (base, (patch, (over, (addr, (len, tt))))))
 
-  abbrev WritesPatchedForC : (section patch out : Slice) → ℕ → (out' : Slice) → Type 0
+  abbrev WritesPatchedForC : (section patch : Slice) (out : Lent) → ℕ → (out' : Lent) → Type 0
   WritesPatchedForC section patch out p out' = c_patched.Reads.Post (κ, (κ', tt)) (section, (patch, (out, tt))) p (section, (patch, (out', tt)))
 
-  abbrev BuildsIndexForC : (section index : Slice) → ℕ → (index' : Slice) → Type 0
+  abbrev BuildsIndexForC : (section : Slice) (index : Lent) → ℕ → (index' : Lent) → Type 0
   BuildsIndexForC section index p index' = c_index.Reads.Post (κ, (κ', tt)) (section, (index, tt)) p (section, (index', tt))
 
-  abbrev ReplacesWordForC : (section : Slice) (place w : ℕ) (index : Slice) (count : ℕ) → ℕ → (section' index' : Slice) → Type 0
+  abbrev ReplacesWordForC : (section : Lent) (place w : ℕ) (index : Lent) (count : ℕ) → ℕ → (section' index' : Lent) → Type 0
   ReplacesWordForC section place w index count p section' index' =
       c_replace.Reads.Post (κ, (κ', tt)) (section, (place, (w, (index, (count, tt))))) p (section', (place, (w, (index', (count, tt)))))
 
-  abbrev FindsCallersForC : (index : Slice) (count target : ℕ) (out : Slice) → ℕ → (out' : Slice) → Type 0
+  abbrev FindsCallersForC : (index : Slice) (count target : ℕ) (out : Lent) → ℕ → (out' : Lent) → Type 0
   FindsCallersForC index count target out p out' =
       c_callers.Reads.Post (κ, (κ', tt)) (index, (count, (target, (out, tt)))) p (index, (count, (target, (out', tt))))
 
-  abbrev PutsInHomeFormForC : (section list : Slice) → ℕ → (section' list' : Slice) → Type 0
+  abbrev PutsInHomeFormForC : (section list : Lent) → ℕ → (section' list' : Lent) → Type 0
   PutsInHomeFormForC section list p section' list' = c_home_form.Reads.Post (κ, (κ', tt)) (section, (list, tt)) p (section', (list', tt))
 
-  abbrev JudgesRuleForC : (flags targets further entries known dist prior way : Slice) → ℕ → (known' dist' prior' way' : Slice) → Type 0
+  abbrev JudgesRuleForC : (flags targets further entries : Slice) (known dist prior way : Lent) → ℕ → (known' dist' prior' way' : Lent) → Type 0
   JudgesRuleForC flags targets further entries known dist prior way p known' dist' prior' way' =
       c_judge.Reads.Post (κ, (κ, (κ, (κ, (κ', (κ', (κ', (κ', tt))))))))
       (flags, (targets, (further, (entries, (known, (dist, (prior, (way, tt)))))))) p
@@ -442,26 +446,26 @@ module _ (κ κ' : Lft) where
   accepted_section bytes o is = rw (refused_section bytes o is) (Sections.accepted_exactly bytes.now)
 
   -- A line and a listing are written, or refused with 10, and then no byte is changed.
-  pub writes_line : (addr w : ℕ) (out out' : Slice) (d : Decoded) (r : Written) → Decodes w addr d → WritesLine addr w out r out'
+  pub writes_line : (addr w : ℕ) (out out' : Lent) (d : Decoded) (r : Written) → Decodes w addr d → WritesLine addr w out r out'
       → Puts given (line_text addr w d) out.now r out'.now
   writes_line addr w out out' d r is wrote = rw (wrote.0, wrote.1, is) (Left.puts given _ _)
 
-  pub writes_listing : (section out out' : Slice) (r : Written) → WritesListing section out r out'
+  pub writes_listing : (section : Slice) (out out' : Lent) (r : Written) → WritesListing section out r out'
       → Puts given (listing_of section.now) out.now r out'.now
   writes_listing section out out' r wrote = rw (wrote.0, wrote.1) (Left.puts given _ _)
 
   -- So they are for C and Rust, with the refusal's number above the length.
-  pub writes_line_for_c : (addr w : ℕ) (out out' : Slice) (d : Decoded) (p : ℕ) → Decodes w addr d → WritesLineForC addr w out p out'
+  pub writes_line_for_c : (addr w : ℕ) (out out' : Lent) (d : Decoded) (p : ℕ) → Decodes w addr d → WritesLineForC addr w out p out'
       → Puts packed (line_text addr w d) out.now p out'.now
   writes_line_for_c addr w out out' d p is wrote = rw (wrote.0, wrote.1, is) (Left.puts packed _ _)
 
-  pub writes_listing_for_c : (section out out' : Slice) (p : ℕ) → WritesListingForC section out p out'
+  pub writes_listing_for_c : (section : Slice) (out out' : Lent) (p : ℕ) → WritesListingForC section out p out'
       → Puts packed (listing_of section.now) out.now p out'.now
   writes_listing_for_c section out out' p wrote = rw (wrote.0, wrote.1) (Left.puts packed _ _)
 
   -- So is what stands at a place of an accepted section, as its address, the word, and 1 if it is data or else 0; from the number of its places on
   -- 13 is given. So from 0 up to there come all of its places, in order. Of another section its own number is given.
-  pub gives_place : (section : Slice) (place : ℕ) (out out' : Slice) (n : ℕ) → GivesPlaceForC section place out n out'
+  pub gives_place : (section : Slice) (place : ℕ) (out out' : Lent) (n : ℕ) → GivesPlaceForC section place out n out'
       → (refusal_of section.now ≡ 0
       → (place < length (places_of section.now) → Puts (λ n len. n) (here_row (here_of section.now place)) out.now n out'.now)
       × (length (places_of section.now) ≤ place → (n ≡ 13) × (out'.now ≡ out.now)))
@@ -472,24 +476,27 @@ module _ (κ κ' : Lft) where
   )
 
   -- A section is converted, or refused with its own number, with 12 or with 10, and then no byte is changed.
-  pub converts : (section : Slice) (target : Target) (out out' : Slice) (r : Written) → Converts section target out r out'
+  pub converts : (section : Slice) (target : Target) (out out' : Lent) (r : Written) → Converts section target out r out'
       → PutsSection given (conversion_refusal target section.now) (converted_of target section.now) out.now r out'.now
   converts section target out out' r wrote = rw (wrote.0, wrote.1) (Left.puts_section given target _ _)
 
-  pub converts_for_c : (target : Target) (section out out' : Slice) (p : ℕ) → ConvertsForC target section out p out'
+  pub converts_for_c : (target : Target) (section : Slice) (out out' : Lent) (p : ℕ) → ConvertsForC target section out p out'
       → PutsSection packed (conversion_refusal target section.now) (converted_of target section.now) out.now p out'.now
   converts_for_c One section out out' p wrote = rw (wrote.0, wrote.1) (Left.puts_section packed One _ _)
   converts_for_c Two section out out' p wrote = rw (wrote.0, wrote.1) (Left.puts_section packed Two _ _)
 
   -- So is the row of an accepted word; of a word that is refused its number is given, and no number of what is lent is changed.
-  pub writes_row : (w addr : ℕ) (row row' : Slice) (d : Decoded) (n : ℕ) → Decodes w addr d → DecodesToRow w addr row n row'
+  pub writes_row : (w addr : ℕ) (row row' : Lent) (d : Decoded) (n : ℕ) → Decodes w addr d → DecodesToRow w addr row n row'
       → PutsRow d row.now n row'.now
-  writes_row w addr row row' d n is wrote = rw (wrote.0, wrote.1, is) (Left.puts_row (decode_of w addr) row.now)
+  writes_row w addr row row' d n is wrote =
+      subst (λ (x : Decoded). PutsRow x row.now n row'.now) (sym is) (rw (wrote.0, wrote.1) (Left.puts_row (decode_of w addr) row.now))
 
-  pub writes_row_of_bytes : (bytes : Slice) (addr : ℕ) (row row' : Slice) (d : Decoded) (n : ℕ) → DecodesBytes bytes addr d
+  pub writes_row_of_bytes : (bytes : Slice) (addr : ℕ) (row row' : Lent) (d : Decoded) (n : ℕ) → DecodesBytes bytes addr d
       → DecodesBytesToRow bytes addr row n row'
       → PutsRow d row.now n row'.now
-  writes_row_of_bytes bytes addr row row' d n is wrote = rw (wrote.0, wrote.1, is) (Left.puts_row (decode_bytes_of bytes.now addr) row.now)
+  writes_row_of_bytes bytes addr row row' d n is wrote =
+      subst (λ (x : Decoded). PutsRow x row.now n row'.now) (sym is)
+      (rw (wrote.0, wrote.1) (Left.puts_row (decode_bytes_of bytes.now addr) row.now))
 
   -- 2. As the manual.
 
@@ -598,10 +605,10 @@ module _ (κ κ' : Lft) where
   row_gives_home Zeros row p w is bound has = is ∙ (Exactly.encodes_exactly Zeros row.now).1 w bound has
 
   -- The row that decoding writes encodes to the word's home word.
-  pub row_back : (c : Filler) (w addr : ℕ) (row row' : Slice) (p : ℕ) → Word w → DecodesToRow w addr row 0 row' → EncodesRow c row' p
+  pub row_back : (c : Filler) (w addr : ℕ) (row row' : Lent) (p : ℕ) → Word w → DecodesToRow w addr row 0 row' → EncodesRow c (as_bor row') p
       → p ≡ packed 0 (home_of c w)
-  row_back Manual w addr row row' p bound is to = to ∙ rw is.1 (Back.goes_home Manual w addr row.now bound (sym is.0))
-  row_back Zeros w addr row row' p bound is to = to ∙ rw is.1 (Back.goes_home Zeros w addr row.now bound (sym is.0))
+  row_back Manual w addr row row' p bound is to = to ∙ ap (encoded_of Manual) is.1 ∙ Back.goes_home Manual w addr row.now bound (sym is.0)
+  row_back Zeros w addr row row' p bound is to = to ∙ ap (encoded_of Zeros) is.1 ∙ Back.goes_home Zeros w addr row.now bound (sym is.0)
 
   -- The counts of a listing's closing line add up to the section's words.
   pub adds_up : (bytes : Slice) (o : Opened) → Opens bytes o
@@ -634,13 +641,13 @@ module _ (κ κ' : Lft) where
   back_accepted s ok none = Conversion.back_possible s ok none
 
   -- A converted section is accepted, in the version that was asked for, with the base and at each place what the section had.
-  pub converted : (section out out' lent : Slice) (target : Target) (r : Written) → Converts section target out r out' → r.refusal ≡ 0
+  pub converted : (section lent : Slice) (out out' : Lent) (target : Target) (r : Written) → Converts section target out r out' → r.refusal ≡ 0
       → lent.now ≡ take r.len out'.now
       → (refusal_of lent.now ≡ 0)
       × (version_of lent.now ≡ number_of target)
       × (base_of lent.now ≡ base_of section.now)
       × (places_of lent.now ≡ places_of section.now)
-  converted section out out' lent target r wrote ok is =
+  converted section lent out out' target r wrote ok is =
       let done = Left.is_converted target section.now out.now (rw wrote.0 at ok) in
       rw (is, wrote.0, wrote.1, done.1) (
         Conversion.converted_accepted target section.now done.0,
@@ -650,33 +657,33 @@ module _ (κ κ' : Lft) where
       )
 
   -- There and back gives the same bytes, and the way back is refused only for want of room.
-  pub leads_back : (section out out' lent : Slice) (target : Target) (r : Written) → Converts section target out r out' → r.refusal ≡ 0
+  pub leads_back : (section lent : Slice) (out out' : Lent) (target : Target) (r : Written) → Converts section target out r out' → r.refusal ≡ 0
       → lent.now ≡ take r.len out'.now → conversion_refusal (own_of section.now) lent.now ≡ 0
-  leads_back section out out' lent target r wrote ok is =
+  leads_back section lent out out' target r wrote ok is =
       let done = Left.is_converted target section.now out.now (rw wrote.0 at ok) in
       rw (is, wrote.0, wrote.1, done.1) (Conversion.back_accepted target section.now done.0)
 
-  pub there_and_back : (section out out' lent out₂ out₂' : Slice) (target : Target) (r r₂ : Written)
+  pub there_and_back : (section lent : Slice) (out out' out₂ out₂' : Lent) (target : Target) (r r₂ : Written)
       → Converts section target out r out' → r.refusal ≡ 0 → lent.now ≡ take r.len out'.now
       → Converts lent (own_of section.now) out₂ r₂ out₂' → r₂.refusal ≡ 0
       → take r₂.len out₂'.now ≡ section.now
-  there_and_back section out out' lent out₂ out₂' target r r₂ wrote ok is wrote₂ ok₂ =
+  there_and_back section lent out out' out₂ out₂' target r r₂ wrote ok is wrote₂ ok₂ =
       let there = Left.is_converted target section.now out.now (rw wrote.0 at ok) in
       let back = Left.is_converted (own_of section.now) lent.now out₂.now (rw wrote₂.0 at ok₂) in
       rw (wrote₂.0, wrote₂.1, back.1, is, wrote.0, wrote.1, there.1) (Conversion.back target section.now there.0)
 
   -- A walk is refused and changes nothing, or it reports, place by place, exactly what a chain of steps from the entry leads to, and each way out.
-  pub walks : (section : Slice) (entry : ℕ) (out out' : Slice) (r : Walked) → WalksFrom section entry out r out'
+  pub walks : (section : Slice) (entry : ℕ) (out out' : Lent) (r : Walked) → WalksFrom section entry out r out'
       → Walks section.now entry out.now r out'.now
   walks section entry out out' r is = is
 
-  pub walks_for_c : (section : Slice) (entry : ℕ) (out out' : Slice) (p : ℕ) → WalksFromForC section entry out p out'
+  pub walks_for_c : (section : Slice) (entry : ℕ) (out out' : Lent) (p : ℕ) → WalksFromForC section entry out p out'
       → WalksForC section.now entry out.now p out'.now
   walks_for_c section entry out out' p is = is
 
   -- If it reports words that are reached and nothing else, each of them is an accepted word, and each way that it goes stays in the section; only
   -- returns and traps end a chain.
-  pub no_way_out : (section : Slice) (entry : ℕ) (out out' : Slice) (r : Walked) → WalksFrom section entry out r out' → r.refusal ≡ 0
+  pub no_way_out : (section : Slice) (entry : ℕ) (out out' : Lent) (r : Walked) → WalksFrom section entry out r out' → r.refusal ≡ 0
       → NoWayOut (take (3 * r.records) out'.now) → (p : ℕ) → Reached (steps_of section.now) entry p
       → Kept (opened_of section.now) p (here_of section.now p)
   no_way_out section entry out out' r is ok quiet = Walking.no_way_out is ok quiet
@@ -712,17 +719,17 @@ module _ (κ κ' : Lft) where
 
   -- For C and Rust a tally stands at the start of lent numbers, and those behind it stay. Fewer than 171 are no tally: they stay as they are, and 10
   -- is given after the section's own number.
-  pub adds_for_c : (section counts counts' : Slice) (n : ℕ) (t : Tally) (r : Added) (rest : List ℕ) → AddsForC section counts n counts'
+  pub adds_for_c : (section : Slice) (counts counts' : Lent) (n : ℕ) (t : Tally) (r : Added) (rest : List ℕ) → AddsForC section counts n counts'
       → Adds t section r → 171 ≤ length t.counts → counts.now ≡ t.counts ++ rest → (n ≡ r.refusal) × (counts'.now ≡ r.tally.counts ++ rest)
   adds_for_c section counts counts' n t r rest wrote is long tally =
-      rw (wrote.0, wrote.1, is, tally) (Lent.lent-refusal t rest section.now long, Lent.lent-last t rest section.now long)
+      rw (wrote.0, wrote.1, is, tally) (Tallying.lent_refusal_lem t rest section.now long, Tallying.lent_last_lem t rest section.now long)
 
-  pub no_tally : (section counts counts' : Slice) (n : ℕ) → AddsForC section counts n counts' → length counts.now < 171
+  pub no_tally : (section : Slice) (counts counts' : Lent) (n : ℕ) → AddsForC section counts n counts' → length counts.now < 171
       → (own_refusal section.now ≡ 0 → n ≡ 10) × ((own_refusal section.now ≡ 0 → ⊥) → n ≡ own_refusal section.now) × (counts'.now ≡ counts.now)
   no_tally section counts counts' n wrote short = (
     λ ok. wrote.0 ∙ sym (Answered.too_short (own_refusal section.now) counts.now ok short),
     λ bad. wrote.0 ∙ sym (Answered.its_own (own_refusal section.now) counts.now bad),
-    wrote.1 ∙ Lent.too_few section.now counts.now short,
+    wrote.1 ∙ Tallying.too_few section.now counts.now short,
   )
 
   -- Words at a base are accepted exactly if they are whole, at most 4,096, at a multiple of 4, and not beyond the last address; and else refused with
@@ -769,16 +776,16 @@ module _ (κ κ' : Lft) where
   run_for_c section base patch over addr len found p is gives = rw is gives
 
   -- A patched section is written, or refused with the section's number, then the patch's, then with 10, and then no byte is changed.
-  pub writes_patched : (section patch out out' : Slice) (r : Written) → WritesPatched section patch out r out'
+  pub writes_patched : (section patch : Slice) (out out' : Lent) (r : Written) → WritesPatched section patch out r out'
       → PutsSection given (patched_refusal section.now patch.now) (patched_of section.now patch.now) out.now r out'.now
   writes_patched section patch out out' r wrote = rw (wrote.0, wrote.1) (Left.puts_patched given section.now patch.now _)
 
-  pub writes_patched_for_c : (section patch out out' : Slice) (p : ℕ) → WritesPatchedForC section patch out p out'
+  pub writes_patched_for_c : (section patch : Slice) (out out' : Lent) (p : ℕ) → WritesPatchedForC section patch out p out'
       → PutsSection packed (patched_refusal section.now patch.now) (patched_of section.now patch.now) out.now p out'.now
   writes_patched_for_c section patch out out' p wrote = rw (wrote.0, wrote.1) (Left.puts_patched packed section.now patch.now _)
 
   -- It is accepted, with the section's header and ranges and at each place the image's word; where the patch does not reach all is as before.
-  pub patches : (section patch out out' : Slice) (r : Written) → WritesPatched section patch out r out' → r.refusal ≡ 0
+  pub patches : (section patch : Slice) (out out' : Lent) (r : Written) → WritesPatched section patch out r out' → r.refusal ≡ 0
       → Patches section.now patch.now (take r.len out'.now)
   patches section patch out out' r wrote ok =
       let done = Left.is_patched section.now patch.now out.now (rw wrote.0 at ok) in
@@ -787,74 +794,74 @@ module _ (κ κ' : Lft) where
 
   -- An index of a section's calls is refused and changes nothing, or it is in order of target and then of caller, each call once, and holds exactly
   -- the words whose flow is a call.
-  pub builds : (section index index' : Slice) (r : Indexed) → BuildsIndex section index r index' → Builds section.now index.now r index'.now
+  pub builds : (section : Slice) (index index' : Lent) (r : Indexed) → BuildsIndex section index r index' → Builds section.now index.now r index'.now
   builds section index index' r is = is
 
-  pub index_of_calls : (section index index' : Slice) (r : Indexed) → BuildsIndex section index r index' → r.refusal ≡ 0
+  pub index_of_calls : (section : Slice) (index index' : Lent) (r : Indexed) → BuildsIndex section index r index' → r.refusal ≡ 0
       → Ordered (entries_of index'.now r.count) × ((e : Entry) → In e (entries_of index'.now r.count) ↔ IsCall section.now e)
   index_of_calls section index index' r is ok =
       rw (Indexing.built is ok) (Calling.index_ordered section.now, Calling.holds_exactly section.now)
 
   -- Replacing a word is refused and changes no byte and no number, or it changes the word's four bytes, and any list handed in gets the same steps.
-  pub replaces : (section section' index index' : Slice) (place w count : ℕ) (r : Indexed)
+  pub replaces : (section section' index index' : Lent) (place w count : ℕ) (r : Indexed)
       → ReplacesWord section place w index count r section' index'
       → Replaces section.now place w index.now count r section'.now index'.now
   replaces section section' index index' place w count r is = is
 
-  pub same_steps : (section section' index index' : Slice) (place w count : ℕ) (r : Indexed)
+  pub same_steps : (section section' index index' : Lent) (place w count : ℕ) (r : Indexed)
       → ReplacesWord section place w index count r section' index' → r.refusal ≡ 0
       → entries_of index'.now r.count ≡ updated_of section.now place w (entries_of index.now count)
   same_steps section section' index index' place w count r is ok = Indexing.updated is ok
 
   -- If the index handed in was built from the old words, the updated one equals an index built afresh from the new words.
-  pub as_built_afresh : (section section' index index' index'' fresh fresh' : Slice) (place w : ℕ) (r r₂ r₃ : Indexed)
-      → BuildsIndex section index r index' → r.refusal ≡ 0
+  pub as_built_afresh : (section section' index index' index'' fresh fresh' : Lent) (place w : ℕ) (r r₂ r₃ : Indexed)
+      → BuildsIndex (as_bor section) index r index' → r.refusal ≡ 0
       → ReplacesWord section place w index' r.count r₂ section' index'' → r₂.refusal ≡ 0
-      → BuildsIndex section' fresh r₃ fresh' → r₃.refusal ≡ 0
+      → BuildsIndex (as_bor section') fresh r₃ fresh' → r₃.refusal ≡ 0
       → entries_of index''.now r₂.count ≡ entries_of fresh'.now r₃.count
   as_built_afresh section section' index index' index'' fresh fresh' place w r r₂ r₃ was ok is ok₂ new ok₃ =
       Indexing.afresh is ok₂ (Indexing.built was ok) ∙ sym (Indexing.built new ok₃)
 
   -- Looking a target up is refused and changes nothing, or it gives its callers in the order of the list, whatever list that is.
-  pub finds : (index out out' : Slice) (count target : ℕ) (r : Written) → FindsCallers index count target out r out'
+  pub finds : (index : Slice) (out out' : Lent) (count target : ℕ) (r : Written) → FindsCallers index count target out r out'
       → (r ≡ found_of index.now count target out.now) × (out'.now ≡ left_of index.now count target out.now)
   finds index out out' count target r is = is
 
   -- So these are for C and Rust, with the refusal's number above the count.
-  pub builds_for_c : (section index index' : Slice) (p : ℕ) → BuildsIndexForC section index p index'
+  pub builds_for_c : (section : Slice) (index index' : Lent) (p : ℕ) → BuildsIndexForC section index p index'
       → BuildsForC section.now index.now p index'.now
   builds_for_c section index index' p is = is
 
-  pub replaces_for_c : (section section' index index' : Slice) (place w count p : ℕ) → ReplacesWordForC section place w index count p section' index'
+  pub replaces_for_c : (section section' index index' : Lent) (place w count p : ℕ) → ReplacesWordForC section place w index count p section' index'
       → ReplacesForC section.now place w index.now count p section'.now index'.now
   replaces_for_c section section' index index' place w count p is = is
 
-  pub finds_for_c : (index out out' : Slice) (count target p : ℕ) → FindsCallersForC index count target out p out'
+  pub finds_for_c : (index : Slice) (out out' : Lent) (count target p : ℕ) → FindsCallersForC index count target out p out'
       → FindsForC index.now count target out.now p out'.now
   finds_for_c index out out' count target p is = is
 
   -- Putting a section in its home form is refused and changes nothing, or each accepted word becomes its home word and the changes are listed.
-  pub puts_home : (section section' list list' : Slice) (r : Changed) → PutsInHomeForm section list r section' list'
+  pub puts_home : (section section' list list' : Lent) (r : Changed) → PutsInHomeForm section list r section' list'
       → PutsHome section.now list.now r section'.now list'.now
   puts_home section section' list list' r is = is
 
-  pub puts_home_for_c : (section section' list list' : Slice) (p : ℕ) → PutsInHomeFormForC section list p section' list'
+  pub puts_home_for_c : (section section' list list' : Lent) (p : ℕ) → PutsInHomeFormForC section list p section' list'
       → PutsHomeForC section.now list.now p section'.now list'.now
   puts_home_for_c section section' list list' p is = is
 
   -- The section is still accepted, with the same version, base and count, and the same bytes before its words: the header and the ranges.
-  pub still_accepted : (section section' list list' : Slice) (r : Changed) → PutsInHomeForm section list r section' list' → r.refusal ≡ 0
+  pub still_accepted : (section section' list list' : Lent) (r : Changed) → PutsInHomeForm section list r section' list' → r.refusal ≡ 0
       → (opened_of section'.now ≡ opened_of section.now)
       × (take (opened_of section.now).start section'.now ≡ take (opened_of section.now).start section.now)
   still_accepted section section' list list' r is ok = (Homing.still_opens is ok, Homing.still_headed is ok)
 
   -- Each place reads as before: a word has become its home word, with the same answer at the same address, and data is the same.
-  pub reads_as_before : (section section' list list' : Slice) (r : Changed) → PutsInHomeForm section list r section' list' → r.refusal ≡ 0
+  pub reads_as_before : (section section' list list' : Lent) (r : Changed) → PutsInHomeForm section list r section' list' → r.refusal ≡ 0
       → Bytes section.now → (p : ℕ) → Stays (here_of section.now p) (here_of section'.now p)
   reads_as_before section section' list list' r is ok bytes = Homing.still_reads is ok bytes
 
   -- The list has exactly the places where old and new words differ, in order, and at its start stand their numbers; both counts are those of the list.
-  pub lists_exactly : (section section' list list' : Slice) (r : Changed) → PutsInHomeForm section list r section' list' → r.refusal ≡ 0
+  pub lists_exactly : (section section' list list' : Lent) (r : Changed) → PutsInHomeForm section list r section' list' → r.refusal ≡ 0
       → Bytes section.now
       → ((c : Change) → Changes.In c (changes_of section.now) ↔ Differs section.now section'.now c)
       × Ascending (changes_of section.now)
@@ -868,7 +875,7 @@ module _ (κ κ' : Lft) where
   )
 
   -- A second run changes nothing and lists nothing, whatever list is lent.
-  pub second_run : (section section' list list' again list₂ again' list₂' : Slice) (r r₂ : Changed)
+  pub second_run : (section section' list list' again list₂ again' list₂' : Lent) (r r₂ : Changed)
       → PutsInHomeForm section list r section' list' → r.refusal ≡ 0 → Bytes section.now
       → again.now ≡ section'.now → PutsInHomeForm again list₂ r₂ again' list₂'
       → (r₂ ≡ record { refusal = 0; changes = 0; unindexed = 0 }) × (again'.now ≡ again.now) × (list₂'.now ≡ list₂.now)
@@ -885,7 +892,7 @@ module _ (κ κ' : Lft) where
   -- The rule of a barrier before every commit is judged for a program in numbers: refused, or violated with a shortest way from an entry to a commit,
   -- undecided with the first open place that is reached, or it holds. And the verdict is exact for runs with a stack: no run is missed, and there is
   -- no alarm without one.
-  pub judges_rule : (flags targets further entries known dist prior way known' dist' prior' way' : Slice) (p : ℕ)
+  pub judges_rule : (flags targets further entries : Slice) (known dist prior way known' dist' prior' way' : Lent) (p : ℕ)
       → JudgesRuleForC flags targets further entries known dist prior way p known' dist' prior' way'
       → JudgesForC flags.now targets.now further.now entries.now known.now dist.now prior.now way.now p
       known'.now dist'.now prior'.now way'.now
