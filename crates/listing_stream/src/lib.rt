@@ -1,10 +1,10 @@
-//! From a file descriptor to standard output.
+//! From a reader to standard output.
 #![tactic(auto)]
 
 ghost use Rattle.std.specs.Prelude.{◌≡◌, ◌≤◌, length};
 
-use libc::{STDERR_FILENO, STDOUT_FILENO};
 use listing_text::{ENOUGH, listing};
+use std::io::Read;
 
 /// Eleven bytes, 64 ranges and 4,097 words, one more than a section may have: so much of a longer input with no more ranges has too many
 /// words too.
@@ -14,36 +14,36 @@ const MOST: usize = 16_911;
 const MOST_OF_ONE: usize = 16_397;
 
 /// Writes the listing of the section that `from` holds. An input that can't be read to its end has none.
-pub fn list(from: i32) {
+pub fn list<R: Read>(rt: &(impl Print + Eprint), from: &mut R) {
     let mut section = [0u8; MOST];
     let n = read_section(from, &mut section);
     if n < most(&section) {
         if !has_ended(from) {
-            io::write_all(STDERR_FILENO, b"the input can't be read to its end\n");
+            let _ = rt.eprintln("the input can't be read to its end");
             return;
         }
     }
     let mut out = [0u8; ENOUGH];
     let written = listing(&section[..n], &mut out);
     let len = written.len;
-    if !io::write_all(STDOUT_FILENO, &out[..len]) {
-        io::write_all(STDERR_FILENO, b"the listing can't be written to its end\n");
+    if rt.write_all(&out[..len]).is_err() {
+        let _ = rt.eprintln("the listing can't be written to its end");
     }
 }
 
 /// Reads as much of a section as is listed. Of version 1 that is less, and no more is waited for.
-fn read_section(from: i32, section: &mut [u8]) -> usize
+fn read_section<R: Read>(from: &mut R, section: &mut [u8]) -> usize
     requires { length section.old ≡ 16911 }
     ensures { result ≤ 16911 }
 {
-    let n = io::read_full(from, &mut section[..MOST_OF_ONE]);
+    let n = read_full(from, &mut section[..MOST_OF_ONE]);
     if n < MOST_OF_ONE {
         return n;
     }
     if most(section) == MOST_OF_ONE {
         return n;
     }
-    n + io::read_full(from, &mut section[MOST_OF_ONE..])
+    n + read_full(from, &mut section[MOST_OF_ONE..])
 }
 
 /// How much of a section is read, by its version.
@@ -58,8 +58,23 @@ fn most(section: &[u8]) -> usize
     MOST
 }
 
+/// Reads until `bytes` is full, the input ends or a read fails, and gives how many bytes it put at the start.
+fn read_full<R: Read>(from: &mut R, bytes: &mut [u8]) -> usize
+    ensures { result ≤ length bytes.old }
+{
+    let mut done = 0;
+    while done < bytes.len() {
+        let n = from.read(&mut bytes[done..]).unwrap_or(0);
+        if n == 0 {
+            return done;
+        }
+        done += n;
+    }
+    done
+}
+
 /// Whether nothing is left to read. `read_full` stops at a read that fails as it does at the end, and this one tells them apart.
-fn has_ended(from: i32) -> bool {
+fn has_ended<R: Read>(from: &mut R) -> bool {
     let mut next = [0u8; 1];
-    libc::read(from, &mut next) == 0
+    matches!(from.read(&mut next), Ok(0))
 }
