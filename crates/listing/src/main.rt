@@ -1,9 +1,8 @@
 //! Lists the section on standard input.
 #![tactic(auto)]
 
-use libc::STDIN_FILENO;
 use listing_stream::list;
 
-fn main() {
-    list(STDIN_FILENO);
+fn main(rt: HostRuntime) {
+    list(&rt, &mut rt.stdin());
 }
