@@ -1,28 +1,24 @@
 //! Lists the sections in the files that its arguments name, each after its file's name.
 #![tactic(auto)]
 
-use libc::STDOUT_FILENO;
 use listing_stream::list;
+use std::rt::Files;
+use std::{env, fs, io};
 
-fn main() {
-    let count = os::arg_count();
-    let mut n = 1;
-    while n < count {
-        list_file(n);
-        n += 1;
+fn main(rt: HostRuntime) -> io::Result<()> {
+    for path in env::args(&rt)?.skip(1) {
+        list_file(&rt, path.as_str())?;
     }
+    Ok(())
 }
 
-fn list_file(n: usize) {
-    let mut path = io::buffer();
-    let length = os::arg(n, &mut path);
-    let fd = os::open_read(&path[..length]);
-    if fd < 0 {
-        os::fail(&path[..length]);
-        return;
+fn list_file(rt: &(impl Files + Print + Eprint), path: &str) -> io::Result<()> {
+    match fs::open(rt, path) {
+        Ok(mut file) => {
+            println!(rt; "{path}:")?;
+            list(rt, &mut file);
+        }
+        Err(error) => eprintln!(rt; "{path}: {error}")?,
     }
-    io::write_all(STDOUT_FILENO, &path[..length]);
-    io::write_all(STDOUT_FILENO, b":\n");
-    list(fd);
-    libc::close(fd);
+    Ok(())
 }
