@@ -43,7 +43,7 @@ fn main() -> ExitCode {
 fn refused_rows() -> Result<Vec<String>, String> {
     let pages = fs::read_to_string(PAGES).map_err(|error| format!("{PAGES}: {error}"))?;
     let list = pages
-        .split_once("\nrefusedRows =")
+        .split_once("\nrefused_rows =")
         .and_then(|(_, rest)| rest.split_once("\n    []"))
         .ok_or_else(|| format!("{PAGES} has no list of refused rows"))?
         .0;
