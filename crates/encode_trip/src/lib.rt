@@ -10,16 +10,14 @@ use encode_home::Filler;
 use word_packed::pack;
 
 /// The word that encoding the answer to `w` gives, with a refusal's number above it.
-#[unsafe(no_mangle)]
-pub extern "C" fn trip(w: u32, addr: u64) -> u64
+pub fn trip(w: u32, addr: u64) -> u64
     ensures { result ≡ trip_of Filler.Manual w addr }
 {
     back(w, addr, Filler::Manual)
 }
 
 /// The same under the zero filler.
-#[unsafe(no_mangle)]
-pub extern "C" fn trip_zeros(w: u32, addr: u64) -> u64
+pub fn trip_zeros(w: u32, addr: u64) -> u64
     ensures { result ≡ trip_of Filler.Zeros w addr }
 {
     back(w, addr, Filler::Zeros)
