@@ -39,16 +39,14 @@ use word::refusal::{NO_PLACE, NO_ROOM, NO_WORD};
 use word_packed::pack;
 
 /// The library's version: 10,000 for each major one, 100 for each minor one, and one for each patch.
-#[unsafe(no_mangle)]
-pub extern "C" fn brassdozen_version() -> u32
+pub fn brassdozen_version() -> u32
     ensures { result ≡ VERSION }
 {
     30_500
 }
 
 /// Decodes `word` at `addr` into the row of its answer, and gives 0; or gives a refusal's number.
-#[unsafe(no_mangle)]
-pub extern "C" fn brassdozen_decode(word: u32, addr: u64, row: &mut [u64]) -> u8
+pub fn brassdozen_decode(word: u32, addr: u64, row: &mut [u64]) -> u8
     ensures value { result ≡ row_refusal (decode_of word addr) row.old }
     ensures row_after { row.new ≡ row_last (decode_of word addr) row.old }
 {
@@ -56,8 +54,7 @@ pub extern "C" fn brassdozen_decode(word: u32, addr: u64, row: &mut [u64]) -> u8
 }
 
 /// Decodes the first four of `bytes` at `addr`, low byte first, as `brassdozen_decode` does a word.
-#[unsafe(no_mangle)]
-pub extern "C" fn brassdozen_decode_bytes(bytes: &[u8], addr: u64, row: &mut [u64]) -> u8
+pub fn brassdozen_decode_bytes(bytes: &[u8], addr: u64, row: &mut [u64]) -> u8
     ensures value { result ≡ row_refusal (decode_bytes_of bytes.now addr) row.old }
     ensures row_after { row.new ≡ row_last (decode_bytes_of bytes.now addr) row.old }
 {
@@ -77,16 +74,14 @@ fn put_answer(row: &mut [u64], d: Decoded) -> u8
 }
 
 /// The home word of the words whose row, at the address in it, `row` is, with a refusal's number above it.
-#[unsafe(no_mangle)]
-pub extern "C" fn brassdozen_encode(row: &[u64]) -> u64
+pub fn brassdozen_encode(row: &[u64]) -> u64
     ensures { result ≡ encoded_of Filler.Manual row.now }
 {
     encode_row(row, Filler::Manual)
 }
 
 /// The same with zeros in the bits that the words' row ignores.
-#[unsafe(no_mangle)]
-pub extern "C" fn brassdozen_encode_zeros(row: &[u64]) -> u64
+pub fn brassdozen_encode_zeros(row: &[u64]) -> u64
     ensures { result ≡ encoded_of Filler.Zeros row.now }
 {
     encode_row(row, Filler::Zeros)
@@ -110,16 +105,14 @@ fn encode_row(row: &[u64], filler: Filler) -> u64
 }
 
 /// The home word of `word`, with a refusal's number above it.
-#[unsafe(no_mangle)]
-pub extern "C" fn brassdozen_home(word: u32) -> u64
+pub fn brassdozen_home(word: u32) -> u64
     ensures { result ≡ homed_of Filler.Manual word }
 {
     home_word(word, Filler::Manual)
 }
 
 /// The same with zeros in the bits that the word's row ignores.
-#[unsafe(no_mangle)]
-pub extern "C" fn brassdozen_home_zeros(word: u32) -> u64
+pub fn brassdozen_home_zeros(word: u32) -> u64
     ensures { result ≡ homed_of Filler.Zeros word }
 {
     home_word(word, Filler::Zeros)
@@ -133,8 +126,7 @@ fn home_word(word: u32, filler: Filler) -> u64
 }
 
 /// Writes the line of `word` at `addr`, and gives its length, with a refusal's number above it.
-#[unsafe(no_mangle)]
-pub extern "C" fn brassdozen_line(addr: u64, word: u32, out: &mut [u8]) -> u64
+pub fn brassdozen_line(addr: u64, word: u32, out: &mut [u8]) -> u64
     ensures value { result ≡ written_of (line_of addr word) out.old }
     ensures out_after { out.new ≡ last_of (line_of addr word) out.old }
 {
@@ -143,8 +135,7 @@ pub extern "C" fn brassdozen_line(addr: u64, word: u32, out: &mut [u8]) -> u64
 }
 
 /// Writes the listing of `section`, and gives its length, with a refusal's number above it.
-#[unsafe(no_mangle)]
-pub extern "C" fn brassdozen_listing(section: &[u8], out: &mut [u8]) -> u64
+pub fn brassdozen_listing(section: &[u8], out: &mut [u8]) -> u64
     ensures value { result ≡ written_of (listing_of section.now) out.old }
     ensures out_after { out.new ≡ last_of (listing_of section.now) out.old }
 {
@@ -153,8 +144,7 @@ pub extern "C" fn brassdozen_listing(section: &[u8], out: &mut [u8]) -> u64
 }
 
 /// Writes the address of what stands at a place of `section`, the word, and 1 if it is data and 0 if not, and gives 0; or gives a refusal's number.
-#[unsafe(no_mangle)]
-pub extern "C" fn brassdozen_place(section: &[u8], place: u32, out: &mut [u32]) -> u8
+pub fn brassdozen_place(section: &[u8], place: u32, out: &mut [u32]) -> u8
     ensures value { result ≡ place_refusal section.now place out.old }
     ensures out_after { out.new ≡ place_last section.now place out.old }
 {
@@ -193,8 +183,7 @@ fn put_three(out: &mut [u32], a: u32, b: u32, c: u32) -> u8
 }
 
 /// Writes `section` as one of version 1, and gives its length, with a refusal's number above it.
-#[unsafe(no_mangle)]
-pub extern "C" fn brassdozen_to_v1(section: &[u8], out: &mut [u8]) -> u64
+pub fn brassdozen_to_v1(section: &[u8], out: &mut [u8]) -> u64
     ensures value { result ≡ converted_to Target.One section.now out.old }
     ensures out_after { out.new ≡ left_of Target.One section.now out.old }
 {
@@ -203,8 +192,7 @@ pub extern "C" fn brassdozen_to_v1(section: &[u8], out: &mut [u8]) -> u64
 }
 
 /// Writes `section` as one of version 2, as `brassdozen_to_v1` does as one of version 1.
-#[unsafe(no_mangle)]
-pub extern "C" fn brassdozen_to_v2(section: &[u8], out: &mut [u8]) -> u64
+pub fn brassdozen_to_v2(section: &[u8], out: &mut [u8]) -> u64
     ensures value { result ≡ converted_to Target.Two section.now out.old }
     ensures out_after { out.new ≡ left_of Target.Two section.now out.old }
 {
@@ -214,8 +202,7 @@ pub extern "C" fn brassdozen_to_v2(section: &[u8], out: &mut [u8]) -> u64
 
 /// Walks through `section` from place `entry` and writes the report's records, of three numbers each. Gives how many there are, above that how many
 /// words were taken up, and a refusal's number above both.
-#[unsafe(no_mangle)]
-pub extern "C" fn brassdozen_walk(section: &[u8], entry: u32, records: &mut [u32]) -> u64
+pub fn brassdozen_walk(section: &[u8], entry: u32, records: &mut [u32]) -> u64
     ensures { WalksForC section.now entry records.old result records.new }
 {
     let w = walk(section, entry as usize, records);
@@ -223,8 +210,7 @@ pub extern "C" fn brassdozen_walk(section: &[u8], entry: u32, records: &mut [u32
 }
 
 /// Adds `section` to the tally at the start of `counts`, and gives 0; or gives a refusal's number.
-#[unsafe(no_mangle)]
-pub extern "C" fn brassdozen_tally(section: &[u8], counts: &mut [u64]) -> u8
+pub fn brassdozen_tally(section: &[u8], counts: &mut [u64]) -> u8
     ensures value { result ≡ lent_refusal (own_of section.now) counts.old }
     ensures counts_after { counts.new ≡ lent_last section.now counts.old }
 {
@@ -233,8 +219,7 @@ pub extern "C" fn brassdozen_tally(section: &[u8], counts: &mut [u64]) -> u8
 
 /// Which of the section's words at `base` and the patch's at `over` holds the `len` bytes from `addr` on, and from which of its bytes on: that place,
 /// above it 1 for the patch and 0 for the section, and a refusal's number above both.
-#[unsafe(no_mangle)]
-pub extern "C" fn brassdozen_run(
+pub fn brassdozen_run(
     section: &[u8],
     base: u32,
     patch: &[u8],
@@ -252,8 +237,7 @@ pub extern "C" fn brassdozen_run(
 }
 
 /// Writes `section` with `patch`, a section of its own, laid over its words, and gives its length, with a refusal's number above it.
-#[unsafe(no_mangle)]
-pub extern "C" fn brassdozen_patched<'a>(section: &'a [u8], patch: &'a [u8], out: &mut [u8]) -> u64
+pub fn brassdozen_patched<'a>(section: &'a [u8], patch: &'a [u8], out: &mut [u8]) -> u64
     ensures value { result ≡ patched_for section.now patch.now out.old }
     ensures out_after { out.new ≡ patched_left section.now patch.now out.old }
 {
@@ -262,8 +246,7 @@ pub extern "C" fn brassdozen_patched<'a>(section: &'a [u8], patch: &'a [u8], out
 }
 
 /// Writes the index of the calls of `section`, target and caller in turn, and gives how many there are, with a refusal's number above it.
-#[unsafe(no_mangle)]
-pub extern "C" fn brassdozen_index(section: &[u8], index: &mut [u32]) -> u64
+pub fn brassdozen_index(section: &[u8], index: &mut [u32]) -> u64
     ensures { BuildsForC section.now index.old result index.new }
 {
     let built = build(section, index);
@@ -271,8 +254,7 @@ pub extern "C" fn brassdozen_index(section: &[u8], index: &mut [u32]) -> u64
 }
 
 /// Replaces the word at a place of `section`, and updates its index of `count` calls. Gives how many there are now, with a refusal's number above it.
-#[unsafe(no_mangle)]
-pub extern "C" fn brassdozen_replace(
+pub fn brassdozen_replace(
     section: &mut [u8],
     place: u32,
     word: u32,
@@ -286,8 +268,7 @@ pub extern "C" fn brassdozen_replace(
 }
 
 /// Writes the callers of `target` in an index of `count` calls, and gives how many there are, with a refusal's number above it.
-#[unsafe(no_mangle)]
-pub extern "C" fn brassdozen_callers(index: &[u32], count: u32, target: u32, out: &mut [u32]) -> u64
+pub fn brassdozen_callers(index: &[u32], count: u32, target: u32, out: &mut [u32]) -> u64
     ensures { FindsForC index.now count target out.old result out.new }
 {
     let found = callers(index, count as usize, target, out);
@@ -296,8 +277,7 @@ pub extern "C" fn brassdozen_callers(index: &[u32], count: u32, target: u32, out
 
 /// Puts `section` in its home form and lists its changes, of three numbers each. Gives how many there are, above that how many were of the unindexed
 /// form of ldc and stc, and a refusal's number above both.
-#[unsafe(no_mangle)]
-pub extern "C" fn brassdozen_home_form(section: &mut [u8], changes: &mut [u32]) -> u64
+pub fn brassdozen_home_form(section: &mut [u8], changes: &mut [u32]) -> u64
     ensures { PutsHomeForC section.old changes.old result section.new changes.new }
 {
     let put = home_form(section, changes);
@@ -309,8 +289,7 @@ pub extern "C" fn brassdozen_home_form(section: &mut [u8], changes: &mut [u32]) 
 
 /// Judges the rule of a barrier before every commit for a program in numbers, as `rule_verdict` has it. Gives the number of places of the way that
 /// breaks it, which is written, or the first open place; above that the verdict, and a refusal's number above both.
-#[unsafe(no_mangle)]
-pub extern "C" fn brassdozen_judge(
+pub fn brassdozen_judge(
     flags: &[u32],
     targets: &[u32],
     further: &[u32],
