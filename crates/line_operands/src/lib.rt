@@ -76,6 +76,7 @@ fn put_access(out: &mut [u8], at: usize, mode: AddrMode, size: u8) -> usize
     put_byte(out, at, b']')
 }
 
+#[tactic(auto, unfolding(line_spelling::specs::Line::operand_text))]
 fn put_operand(out: &mut [u8], at: usize, operand: Operand) -> usize
     requires { Room out.old at (operand_text operand) }
     ensures { Put out.old at (operand_text operand) result out.new }
