@@ -1,0 +1,2 @@
+-- Facts of the crate that belong to no one function.
+pub mod Same
