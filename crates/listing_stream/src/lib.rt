@@ -1,7 +1,8 @@
 //! From a reader to standard output.
 #![tactic(auto)]
 
-ghost use Rattle.std.specs.Prelude.{◌≡◌, ◌≤◌, length};
+ghost use Rattle.std.specs.Io.KnownBytes.{Consumes};
+ghost use Rattle.std.specs.Prelude.{◌≡◌, ◌+◌, ◌<◌, ◌≤◌, length, take, drop};
 
 use listing_text::{ENOUGH, listing};
 use std::io::Read;
@@ -58,19 +59,33 @@ fn most(section: &[u8]) -> usize
     MOST
 }
 
-/// Reads until `bytes` is full, the input ends or a read fails, and gives how many bytes it put at the start.
+/// Reads until `bytes` is full, the input ends or a read fails, and gives how many bytes it put at the start. None that it read is lost.
 fn read_full<R: Read>(from: &mut R, bytes: &mut [u8]) -> usize
-    ensures { result ≤ length bytes.old }
+    ensures bound { result ≤ length bytes.old }
+    ensures none_lost { Consumes (R.remaining from.old) (R.remaining from.new) (take result bytes.new) }
 {
     let mut done = 0;
     while done < bytes.len() {
-        let n = from.read(&mut bytes[done..]).unwrap_or(0);
+        let n = read_at(from, bytes, done);
         if n == 0 {
             return done;
         }
         done += n;
     }
     done
+}
+
+/// One read into `bytes` from place `at` on, and how many bytes it put there. One that fails puts none.
+fn read_at<R: Read>(from: &mut R, bytes: &mut [u8], at: usize) -> usize
+    requires { at < length bytes.old }
+    ensures front { take at bytes.new ≡ take at bytes.old }
+    ensures bound { at + result ≤ length bytes.new }
+    ensures none_lost { Consumes (R.remaining from.old) (R.remaining from.new) (take result (drop at bytes.new)) }
+{
+    match from.read(&mut bytes[at..]) {
+        Ok(n) => n,
+        Err(_) => 0,
+    }
 }
 
 /// Whether nothing is left to read. `read_full` stops at a read that fails as it does at the end, and this one tells them apart.

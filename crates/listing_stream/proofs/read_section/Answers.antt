@@ -6,4 +6,4 @@ pub slice_bounds-read_full-end-2 : goal.slice_bounds-read_full-end-2
 slice_bounds-read_full-end-2 g c = sym (length-take-le 16397 _ (omega (arith, c.requires)))
 
 pub returns : goal.returns
-returns g c = omega (arith, simp length-take at c.read_full-n.ensures, simp (length-take, length-drop) at c.read_full.ensures, c.requires)
+returns g c = omega (arith, simp length-take at c.read_full-n.ensures.bound, simp (length-take, length-drop) at c.read_full.ensures.bound, c.requires)
