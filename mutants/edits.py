@@ -56,7 +56,7 @@ def crates():
     for line in (ROOT / "crates.txt").read_text().splitlines():
         name, colon, deps = line.split("#")[0].partition(":")
         if colon:
-            order[name.strip()] = deps.split()
+            order[name.split()[0]] = deps.split()
     return order
 
 

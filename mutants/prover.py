@@ -2,23 +2,21 @@
 
 import hashlib
 import os
-import platform
+import queue
 import re
 import shutil
+import signal
 import subprocess
 import sys
-import tempfile
 import threading
 import time
+from contextlib import contextmanager
 from dataclasses import dataclass
-from pathlib import Path
 
 from edits import ROOT, crates, files, folder, functions, text_of
 
-TARGET = ROOT / "target"
-KIT = Path(os.environ.get("RATTLE_HOME") or Path(shutil.which("rt") or sys.exit("mutants: there is no command rt: the Rattle kit is needed")).resolve().parents[1])
-OWN = KIT / "on" / platform.machine()
 LONGEST = 900  # seconds that a check may take
+LONGEST_ABOVE = 3600  # the same, where crates between are proved anew, too
 
 
 # ---- verdicts
@@ -33,33 +31,47 @@ class Verdict:
     seconds: float = 0
 
 
-ERROR = re.compile(r"^(\S+?):\d+:\d+: error: (?:`([^`]+)`: )?(.*)$", re.M)
-MADE = re.compile(r"^fn \w+::(\S+): no proof: .*?`search` does not close (.*)$", re.M)
+ERROR = re.compile(r"^(?:\./)?(\S+?):\d+:\d+: error: (?:`([^`]+)`: )?(.*)$", re.M)
+# a goal that the prover leaves open, and the line on a function after its goals
+NOTE = re.compile(r"^note: \S+?:\d+:\d+: .*\(`([^`]+)`\)|^fn \w+::(\S+): (?:not proved|no proof)\b(.*)$", re.M)
+PROVED, NOT_PROVED = re.compile(r"^logic=proved", re.M), re.compile(r"^logic=not-proved", re.M)
 # an error that only follows from another
 FOLLOWS = re.compile(r"was not admitted|cannot be checked")
 # the proof names what is no longer there, and nothing is said of a fact
-NAMES = re.compile(r"has no `|has no field|not in scope|not defined|too many|too few|unknown|not a function|this pattern needs")
-SAFETY = re.compile(r"(add|sub|mul|div|rem|shl|shr|neg|cast|slice|shared|array|element|index|part|way|enum)-|same-length|.*-(requires|less)(-\d+)?$")
+NAMES = re.compile(r"has no `|has no field|not in scope|is no name|not defined|too many|too few|unknown|not a function|this pattern needs")
+# a text of src/ or specs/ that can't be read: no program
+UNREAD = re.compile(r"not in scope|has no field|is no name|operand is missing|expected the end|cannot continue")
+SAFETY = re.compile(r"(overflow|nonzero|\w*bounds)\w*-|\w+-\w+-(in_)?bounds|.*-(requires|smaller)(-|$)")
+# of a proof by hand
+BY_HAND = re.compile(r"proofs/\+?(.*)/(?:Proof|Answers|Invariants)\.antt")
 STRONGEST = ("contract", "theorem", "safety", "text")
 
 
 def is_rejected(status, said):
     """The compiler rejects the crate, and the prover is not asked."""
-    return status == 1 and not re.search(r"^logic=", said, re.M)
+    return status == 1 and not NOT_PROVED.search(said)
+
+
+def kind_of(need):
+    return "safety" if SAFETY.match(need) else "contract"
 
 
 def faults(said):
     """What does not hold, the strongest first: the function or the file, the need or the theorem, and of what kind it is."""
     found = []
     for path, need, message in ERROR.findall(said):
-        m = re.fullmatch(r"proofs/\+?(.*)/Proof\.antt", path)
-        # a need that is proved in the last line is named by the message
-        need = (need.endswith("-spec") and re.search(r"Need-([\w-]+)", message) or ["", need])[1]
+        m = BY_HAND.fullmatch(path)
         if not FOLLOWS.search(message):
-            kind = "text" if NAMES.search(message) else "theorem" if not m else "safety" if SAFETY.match(need) else "contract"
+            kind = "text" if NAMES.search(message) else kind_of(need) if m else "theorem"
             found.append((m[1].replace("/", "::") if m else path, need, kind))
-    for name, needs in MADE.findall(said):
-        found += ((name, need, "safety" if SAFETY.match(need) else "contract") for need in re.findall(r"`([^`]+)`", needs))
+    left = []
+    for need, name, more in NOTE.findall(said):
+        if need:
+            left.append(need)
+        else:
+            left += re.findall(r"`([^`]+)`", more.partition("`search` did not prove ")[2])
+            found += ((name, need, kind_of(need)) for need in left)
+            left = []
     return sorted(found, key=lambda fault: STRONGEST.index(fault[2]))
 
 
@@ -68,24 +80,31 @@ def refused(found):
     return Verdict("refused", kind, f"{name}, {need}" if need else name)
 
 
+def last_line(said):
+    lines = [line for line in said.splitlines() if line.strip() and not line.startswith("rt: rt ")]
+    return lines[-1][:200] if lines else ""
+
+
 def verdict(edit, status, said):
-    if status == 0 and re.search(r"^logic=proved", said, re.M):
+    if status == 0 and PROVED.search(said):
         return Verdict("accepted")
     if is_rejected(status, said):
         return Verdict("no program", what=(re.search(r"error.*", said) or [""])[0][:160])
     for path, name, message in ERROR.findall(said):
-        if path.startswith("specs/") and name in edit.declared():
-            return Verdict("no program", what=f"{name}: {message[:120]}")
+        is_text = path.startswith(("src/", "specs/")) and (not name or UNREAD.search(re.sub(r"`[^`]*`", "", message)))
+        if is_text or path.startswith("specs/") and name in edit.declared():
+            return Verdict("no program", what=f"{path}, {name}: {message[:120]}")
     found = faults(said)
-    return refused(found) if status == 1 and found else Verdict("untold", what=(said.strip().splitlines() or [""])[-1][:200])
+    return refused(found) if status == 1 and found else Verdict("untold", what=last_line(said))
 
 
 def verdict_among(edit, status, said):
-    """The verdict on one of several functions that were changed at once, or None if it can't be told."""
+    """The verdict on one of several functions that were changed at once, or None if it can't be told: the goals of one that calls another are not tried
+    where that other is not proved."""
     name = edit.function()
     if re.search(rf"^fn {edit.crate}::{re.escape(name)}: proved$", said, re.M):
         return Verdict("accepted")
-    found = [fault for fault in faults(said) if fault[0] == name]
+    found = [fault for fault in faults(said) if fault[0] == name and fault[2] != "text"]
     return refused(found) if status == 1 and found else None
 
 
@@ -106,63 +125,99 @@ def mentions(text, names):
     return any(re.search(rf"(?<![\w-]){re.escape(name)}(?![\w-])", text) for name in names)
 
 
+def linked(one, other):
+    """Gives a file a second name: rt makes what it keeps anew, and writes into none."""
+    try:
+        os.link(one, other)
+    except OSError:
+        shutil.copy2(one, other)
+
+
 class Prover:
-    def __init__(self, work, logs):
-        self.work, self.logs, self.order = work, logs, crates()
-        self.proved, self.proving = set(), {crate: threading.Lock() for crate in self.order}
-        # every crate as a library first, so that no two checks make the same one
-        self.rt("check", r"^rt: ")
+    """Checks in scratch copies of the repository: `base` is as it stands, and holds what is proved of it; a room is one of a few, and holds the crates
+    that one check needs."""
 
-    def rt(self, verb, said, *crates):
-        done = subprocess.run(["rt", verb, *crates], cwd=ROOT, stdout=subprocess.PIPE, stderr=subprocess.STDOUT, text=True)
-        if done.returncode or not re.search(said, done.stdout, re.M):
-            sys.exit(f"mutants: not proved as it stands: rt {verb} {' '.join(crates)}\n{done.stdout[-2000:]}")
+    def __init__(self, work, logs, jobs):
+        self.work, self.logs, self.jobs, self.order = work, logs, jobs, crates()
+        self.base, self.proved, self.proving = work / "base", set(), threading.Lock()
+        self.rooms = queue.SimpleQueue()
+        for number in range(jobs):
+            self.rooms.put(work / f"room-{number}")
 
-    def prove(self, crate):
-        """Has a crate proved as it stands, once, and gives the folder that holds what was checked of it."""
-        with self.proving[crate]:
-            if crate not in self.proved:
-                self.rt("dev", r"^logic=proved", crate)
-                self.proved.add(crate)
-        return TARGET / "inc" / crate
-
-    def room(self, crate, edits):
-        """A copy of a crate with edits."""
-        room = Path(tempfile.mkdtemp(dir=self.work))
-        for part in ("src", "specs", "proofs"):
-            if (folder(crate) / part).is_dir():
-                shutil.copytree(folder(crate) / part, room / part)
+    def copy(self, top, names, edits=()):
+        """A copy of these crates, with edits."""
+        for name in names:
+            for part in ("src", "specs", "proofs"):
+                if (folder(name) / part).is_dir():
+                    shutil.copytree((self.base if top != self.base else ROOT) / "crates" / name / part, top / "crates" / name / part)
         # from the last place to the first, so that no change moves another
-        for file, start, end, new in sorted((change for edit in edits for change in edit.changes), reverse=True):
-            text = (room / file).read_text()
-            (room / file).write_text(text[:start] + new + text[end:])
-        return room
+        for file, start, end, new, name in sorted(((*change, edit.crate) for edit in edits for change in edit.changes), reverse=True):
+            path = top / "crates" / name / file
+            text = path.read_text()
+            path.write_text(text[:start] + new + text[end:])
 
-    def rattle(self, verb, crate, room, rlibs, *more):
-        """Runs the compiler on the crate in a room, as rt does, with each library from the first of some folders that has it."""
-        root = next(path for path in (room / "src/main.rt", room / "src/lib.rt") if path.exists())
-        rlibs = [*rlibs, TARGET / "rlib", OWN / "rlib"]
-        words = [OWN / "bin/rattle", verb, "--crate-name", crate, root]
-        for dep in ["std", *self.order[crate]]:
-            words += ["--extern", f"{dep}={next(path for path in (rlib / f'{dep}.rlib' for rlib in rlibs) if path.exists())}"]
-        for rlib in rlibs:
-            words += ["-L", f"dependency={rlib}"]
-        words += ["--antt-project", KIT / "logic/antt-project.json", "--logic-built", OWN / "logic-built", *more]
+    def listed(self, top, names):
+        """Lists these crates in a copy, as the repository does."""
+        lines = (ROOT / "crates.txt").read_text().splitlines(keepends=True)
+        (top / "crates.txt").write_text("".join(line for line in lines if line.split("#")[0].split(":")[0].split()[:1] in ([name] for name in names)))
+        if (ROOT / "HANDLES").exists():
+            shutil.copy2(ROOT / "HANDLES", top / "HANDLES")
+
+    def rt(self, words, where, longest=None):
+        """What a command of the kit says, and its status; 3 if it doesn't end."""
+        how = {"cwd": where, "stdin": subprocess.DEVNULL, "stdout": subprocess.PIPE, "stderr": subprocess.STDOUT, "text": True, "errors": "replace"}
         try:
-            done = subprocess.run([str(word) for word in words], stdout=subprocess.PIPE, stderr=subprocess.STDOUT, text=True, timeout=LONGEST)
+            started = subprocess.Popen(["rt", *words], start_new_session=True, **how)
+        except FileNotFoundError:
+            sys.exit("mutants: there is no command rt: the Rattle kit is needed")
+        try:
+            said = started.communicate(timeout=longest)[0]
+            return started.returncode, said
         except subprocess.TimeoutExpired:
-            return 3, f"no answer in {LONGEST} s"
-        return done.returncode, done.stdout.replace(f"{room}/", "")
+            return 3, f"no answer in {longest} s"
+        finally:
+            if started.poll() is None:
+                os.killpg(started.pid, signal.SIGKILL)
+                started.wait()
 
-    def check(self, crate, edits, rlibs=()):
-        """Checks a crate with edits, over a copy of what is proved of it."""
-        room = self.room(crate, edits)
-        shutil.copytree(self.prove(crate), room / "inc")
-        status, said = self.rattle("check", crate, room, rlibs, "--incremental", room / "inc")
-        shutil.rmtree(room)
+    def prove(self, tried):
+        """Has these crates, and those that they stand on, proved as they stand."""
+        with self.proving:
+            more = set(tried).union(*(below(self.order, crate) for crate in tried)) - self.proved
+            if more:
+                self.copy(self.base, more)
+                self.listed(self.base, more | self.proved)
+                status, said = self.rt(["all", "check", "--jobs", str(self.jobs)], self.base)
+                if status:
+                    raise SystemExit(f"mutants: not proved as it stands:\n{said[-2000:]}")
+                self.proved |= more
+
+    @contextmanager
+    def room(self, crate, edits):
+        """A room with a crate and those below, with edits of one of them, over what is kept of each as it stands."""
+        room = self.rooms.get()
+        try:
+            names = [name for name in self.order if name == crate or name in below(self.order, crate)]
+            self.copy(room, names, edits)
+            self.listed(room, names)
+            for name in names:
+                changed = name == crate or any(edit.crate in {name, *below(self.order, name)} for edit in edits)
+                kept = "incremental" if changed else "rlib"
+                if (self.base / "crates" / name / "out" / kept).is_dir():
+                    shutil.copytree(self.base / "crates" / name / "out" / kept, room / "crates" / name / "out" / kept, symlinks=True, copy_function=linked)
+            yield room
+        finally:
+            shutil.rmtree(room, ignore_errors=True)
+            self.rooms.put(room)
+
+    def check(self, crate, edits, longest=LONGEST):
+        """Checks a crate, where it or one below has edits, over what is proved without them."""
+        with self.room(crate, edits) as room:
+            status, said = self.rt(["check", "--jobs", "1"], room / "crates" / crate, longest)
+            said = said.replace(f"{room}/", "")
         if self.logs:
             titles = "".join(f"# {edit.crate}: {edit.title}\n" for edit in edits)
-            (self.logs / f"{crate}-{hashlib.sha256(titles.encode()).hexdigest()[:12]}.log").write_text(titles + said)
+            (self.logs / f"{crate}-{hashlib.sha256(titles.encode()).hexdigest()[:12]}.log").write_text(f"{titles}{said}status {status}\n")
         return status, said
 
     # -- tries
@@ -200,27 +255,18 @@ class Prover:
 
     def alone(self, edit):
         one = verdict(edit, *self.check(edit.crate, [edit]))
-        return self.above(edit) if one.word == "accepted" and not edit.function() else one
+        return self.above(edit) if one.word == "accepted" and (edit.where or not edit.function()) else one
 
     def above(self, edit):
-        """Tries an edit that its own crate does not refuse with the crates above that use what it changes."""
-        rlib = Path(tempfile.mkdtemp(dir=self.work))
-        built = set()
+        """Tries an edit that its own crate does not refuse with the crates above that use what it changes. A crate between may refuse it, too."""
         users = [edit.where] if edit.where else self.users(edit)
         for user in users:
-            path = [crate for crate in self.order if crate in below(self.order, user) and edit.crate in {crate, *below(self.order, crate)}]
-            for crate in [*path, user]:
-                if crate != edit.crate:
-                    one = verdict(edit, *self.check(crate, [], [rlib]))
-                    one.crate = crate
-                    if one.word != "accepted":
-                        return one
-                if crate != user and crate not in built:
-                    room = self.room(crate, [edit] if crate == edit.crate else [])
-                    status, said = self.rattle("build", crate, room, [rlib], "-o", rlib / f"{crate}.rlib")
-                    if status:
-                        return verdict(edit, status, said)
-                    built.add(crate)
+            self.prove([user])
+            status, said = self.check(user, [edit], LONGEST_ABOVE)
+            one = verdict(edit, status, said)
+            one.crate = (re.search(r"^rt: the library (\w+) did not build", said, re.M) or ["", user])[1]
+            if one.word != "accepted":
+                return one
         return Verdict("accepted", what=f"also with {', '.join(users)}" if users else "nothing uses it")
 
     def users(self, edit):
