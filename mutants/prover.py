@@ -133,6 +133,13 @@ def linked(one, other):
         shutil.copy2(one, other)
 
 
+def end(started):
+    """Ends a command and what it started."""
+    if started.poll() is None:
+        os.killpg(started.pid, signal.SIGKILL)
+        started.wait()
+
+
 class Prover:
     """Checks in scratch copies of the repository: `base` is as it stands, and holds what is proved of it; a room is one of a few, and holds the crates
     that one check needs."""
@@ -140,6 +147,7 @@ class Prover:
     def __init__(self, work, logs, jobs):
         self.work, self.logs, self.jobs, self.order = work, logs, jobs, crates()
         self.base, self.proved, self.proving = work / "base", set(), threading.Lock()
+        self.running, self.is_stopped = set(), False
         self.rooms = queue.SimpleQueue()
         for number in range(jobs):
             self.rooms.put(work / f"room-{number}")
@@ -170,15 +178,23 @@ class Prover:
             started = subprocess.Popen(["rt", *words], start_new_session=True, **how)
         except FileNotFoundError:
             sys.exit("mutants: there is no command rt: the Rattle kit is needed")
+        self.running.add(started)
         try:
+            if self.is_stopped:
+                raise SystemExit("mutants: stopped")
             said = started.communicate(timeout=longest)[0]
             return started.returncode, said
         except subprocess.TimeoutExpired:
             return 3, f"no answer in {longest} s"
         finally:
-            if started.poll() is None:
-                os.killpg(started.pid, signal.SIGKILL)
-                started.wait()
+            self.running.discard(started)
+            end(started)
+
+    def stop(self):
+        """Ends the checks that run, and lets no other begin."""
+        self.is_stopped = True
+        for started in list(self.running):
+            end(started)
 
     def prove(self, tried):
         """Has these crates, and those that they stand on, proved as they stand."""
