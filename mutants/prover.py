@@ -99,8 +99,8 @@ def verdict(edit, status, said):
 
 
 def verdict_among(edit, status, said):
-    """The verdict on one of several functions that were changed at once, or None if it can't be told: the goals of one that calls another are not tried
-    where that other is not proved."""
+    """The verdict on one of several functions that were changed at once, or None if it can't be told: the goals of one that calls another are not
+    tried where that other is not proved."""
     name = edit.function()
     if re.search(rf"^fn {edit.crate}::{re.escape(name)}: proved$", said, re.M):
         return Verdict("accepted")
@@ -141,8 +141,8 @@ def end(started):
 
 
 class Prover:
-    """Checks in scratch copies of the repository: `base` is as it stands, and holds what is proved of it; a room is one of a few, and holds the crates
-    that one check needs."""
+    """Checks in scratch copies of the repository: `base` is as it stands, and holds what is proved of it; a room is one of a few, and holds the
+    crates that one check needs."""
 
     def __init__(self, work, logs, jobs):
         self.work, self.logs, self.jobs, self.order = work, logs, jobs, crates()
@@ -219,8 +219,9 @@ class Prover:
             for name in names:
                 changed = name == crate or any(edit.crate in {name, *below(self.order, name)} for edit in edits)
                 kept = "incremental" if changed else "rlib"
-                if (self.base / "crates" / name / "out" / kept).is_dir():
-                    shutil.copytree(self.base / "crates" / name / "out" / kept, room / "crates" / name / "out" / kept, symlinks=True, copy_function=linked)
+                out = self.base / "crates" / name / "out" / kept
+                if out.is_dir():
+                    shutil.copytree(out, room / "crates" / name / "out" / kept, symlinks=True, copy_function=linked)
             yield room
         finally:
             shutil.rmtree(room, ignore_errors=True)
