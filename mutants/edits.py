@@ -74,11 +74,11 @@ def functions(file, text):
         return
     module = "" if Path(file).stem in ("lib", "main") else "::".join(Path(file).with_suffix("").parts[1:]) + "::"
     owner = ""
-    for m in re.finditer(r'^(?:impl (\w+) \{|\}|( *)(?:pub )?(?:extern "C" )?fn (\w+))', text, re.M):
-        if m[3]:
-            yield f"{module}{owner}{m[3]}", m.start(), text.find(f"\n{m[2]}}}\n", m.end())
+    for m in re.finditer(r'^(?:impl(?:<[^>]*>)? (?:(\w+) for )?(\w+)(?:<[^>]*>)? \{|\}|( *)(?:pub )?(?:extern "C" )?fn (\w+))', text, re.M):
+        if m[4]:
+            yield f"{module}{owner}{m[4]}", m.start(), text.find(f"\n{m[3]}}}\n", m.end())
         else:
-            owner = f"{m[1]}::" if m[1] else ""
+            owner = f"{m[2]}{m[1] or ''}::" if m[2] else ""
 
 
 # ---- the lists

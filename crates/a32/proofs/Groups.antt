@@ -1,14 +1,11 @@
 -- The way through the decoder: by tests on its bits alone a word belongs to one group, and its answer is that group's, at every address. So what is
 -- to hold of the decoder's answers is shown group by group. Assumes nothing.
-use mathlib.Core.Path.{◌≡◌, sym, fun_ext, subst}
-use mathlib.Core.Bool.{true, false}
-use Prim.Native.Nat.{ℕ, ◌*◌, ◌+◌}
-use native.Mathlib.Omega.{arith}
-use borrow.Author.Tests.{eqb-true, eqb-false}
-use lib.Dec.{eqb}
+use Rattle.std.proofs.Common.{◌≡◌, sym, subst, true, false, ℕ, ◌*◌, ◌+◌, arith, eqb-true, eqb}
+use Rattle.std.proofs.Math.Path.{fun_ext}
+use Rattle.std.proofs.lemmas.Bool.{eqb-false}
 use Rattle.word.specs.Choice.{by_test}
 use Rattle.word.specs.Field.{field, small, splits}
-use Rattle.insn.specs.declared.Decoded.{Decoded}
+use Rattle.insn.specs.Answer.{Decoded}
 use Rattle.a32_dp.specs.DpReg.{dp_reg_of}
 use Rattle.a32_dp.specs.DpImm.{dp_imm_of}
 use Rattle.a32_misc.specs.Misc.{misc_of}

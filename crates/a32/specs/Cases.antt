@@ -1,15 +1,14 @@
 -- 01, "Proved cases": one table, one theorem. The home words of case 13 belong to the encoder.
-use Rattle.std.specs.Prelude.{◌≡◌, refl, true, List, [], ◌∷◌, ℕ, pos, negsuc}
+use Rattle.std.specs.Prelude.{◌≡◌, refl, true, List, [], ◌∷◌, ℕ, pos, negsuc, None}
 use Rattle.std.specs.Int.Count.{ones_in}
 use Rattle.word.specs.Field.{field}
 use Rattle.word.specs.Signed.{sext_of}
 use Rattle.insn.specs.Answer.{insn_of, places, accepted, refused}
 use Rattle.insn.specs.Memory.{base_disp}
 use Rattle.insn.specs.Roots.{name}
-use Rattle.insn.specs.declared.Decoded.{Decoded}
+use Rattle.insn.specs.Answer.{Decoded}
 use Rattle.insn.specs.declared.Flow.{Flow}
 use Rattle.insn.specs.declared.Flow.TheVariants.{Next, Branch, IndirectBranch, Call, Return}
-use Rattle.insn.specs.declared.Index.TheVariants.{Absent}
 use Rattle.insn.specs.declared.AddrMode.TheVariants.{PostIndex}
 use Rattle.insn.specs.declared.Operand.{Operand}
 use Rattle.insn.specs.declared.Operand.TheVariants.{Register, Count, Address, Memory, Option}
@@ -81,7 +80,7 @@ table =
     } ∷
     -- 13: e4110000 has minus zero, e5110000 has none
     always 0xe4110000 (name "ldr") Next (r 0 ∷ Memory
-    (record { base = record { 0 = 1 }; index = Absent; disp = pos 0; mode = PostIndex; size = 4; decimal = true; minus_zero = true }) ∷ []) ∷
+    (record { base = record { 0 = 1 }; index = None; disp = pos 0; mode = PostIndex; size = 4; decimal = true; minus_zero = true }) ∷ []) ∷
     always 0xe5110000 (name "ldr") Next (r 0 ∷ Memory (base_disp (record { 0 = 1 }) (pos 0) 4) ∷ []) ∷
     -- 14: dsb (02, P1)
     record {

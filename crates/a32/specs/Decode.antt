@@ -5,7 +5,7 @@ use Rattle.word.specs.Field.{field}
 use Rattle.word.specs.Choice.{pick, both}
 use Rattle.word.specs.Refusal.{SHORT}
 use Rattle.insn.specs.Answer.{refused}
-use Rattle.insn.specs.declared.Decoded.{Decoded}
+use Rattle.insn.specs.Answer.{Decoded}
 use Rattle.a32_shared.specs.Row.{among, ◌⇒◌}
 use Rattle.a32_dp.specs.DpReg.{dp_reg_of}
 use Rattle.a32_dp.specs.DpImm.{dp_imm_of}

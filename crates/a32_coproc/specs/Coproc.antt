@@ -5,7 +5,7 @@ use Rattle.word.specs.Choice.{pick, both}
 use Rattle.word.specs.Refusal.{COPROCESSOR}
 use Rattle.insn.specs.Answer.{refused}
 use Rattle.insn.specs.Roots.{name}
-use Rattle.insn.specs.declared.Decoded.{Decoded}
+use Rattle.insn.specs.Answer.{Decoded}
 use Rattle.insn.specs.declared.Flow.TheVariants.{Next}
 use Rattle.insn.specs.declared.Operand.{Operand}
 use Rattle.insn.specs.declared.Operand.TheVariants.{Count, Coprocessor, CoprocessorRegister}

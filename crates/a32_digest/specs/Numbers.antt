@@ -1,10 +1,9 @@
 -- An answer as a row of numbers: of each case of an enum its number, then its values.
-use Rattle.std.specs.Prelude.{ℕ, suc, ◌-◌, ◌/◌, ◌%◌, ◌^◌, Bool, true, false, List, [], ◌∷◌, ◌++◌, ℤ, pos, negsuc, ◌==◌}
-use Rattle.word.specs.Choice.{pick}
-use Rattle.insn.specs.Answer.{spread}
+use Rattle.std.specs.Prelude.{ℕ, suc, ◌-◌, ◌/◌, ◌%◌, ◌^◌, Bool, true, false, List, [], ◌∷◌, ◌++◌, ℤ, pos, negsuc, Some, None, Ok, Err}
+use Rattle.word.specs.Refusal.{number}
+use Rattle.insn.specs.Answer.{Decoded, spread}
 use Rattle.insn.specs.Numbers.{shift_number, status_number, mode_number, flow_number, flow_target}
-use Rattle.insn.specs.declared.Index.{Index}
-use Rattle.insn.specs.declared.Index.TheVariants.{Absent, Left}
+use Rattle.insn.specs.Memory.{Index}
 use Rattle.insn.specs.declared.Mem.{Mem}
 use Rattle.insn.specs.declared.Operand.{Operand}
 use Rattle.insn.specs.declared.Operand.TheVariants.{Empty, Register, Shifted, ShiftBy, SaturateShift, Rotate, Count, Number, StatusMask}
@@ -12,7 +11,6 @@ use Rattle.insn.specs.declared.Operand.TheVariants.{StatusSource, WriteBack, Lis
 use Rattle.insn.specs.declared.Operand.TheVariants.{CoprocessorRegister}
 use Rattle.insn.specs.declared.Place.{Place}
 use Rattle.insn.specs.declared.Insn.{Insn}
-use Rattle.insn.specs.declared.Decoded.{Decoded}
 
 -- a signed number in two's complement, 64 bits
 abbrev pub bits_of : ℤ → ℕ
@@ -29,8 +27,8 @@ mark_number true = 1
 
 -- "optional index with left shift"
 abbrev pub index_numbers : Index → List ℕ
-index_numbers Absent = 0 ∷ 0 ∷ 0 ∷ []
-index_numbers (Left r n) = 1 ∷ r.0 ∷ n ∷ []
+index_numbers None = 0 ∷ 0 ∷ 0 ∷ []
+index_numbers (Some (r, n)) = 1 ∷ r.0 ∷ n ∷ []
 
 -- "base, optional index with left shift, displacement, mode (offset, pre, post), size, and two marks: decimal, and minus zero"
 abbrev pub mem_numbers : Mem → List ℕ
@@ -76,4 +74,5 @@ insn_numbers i =
 
 -- "A refusal returns its number only"; an instruction's row starts with 0
 abbrev pub answer_numbers : Decoded → List ℕ
-answer_numbers d = pick (d.refusal == 0) (0 ∷ insn_numbers d.insn) (d.refusal ∷ [])
+answer_numbers (Ok i) = 0 ∷ insn_numbers i
+answer_numbers (Err r) = number r ∷ []

@@ -1,14 +1,14 @@
 //! A digest of the decoder's answers, by which it is compared with another decoder over every word.
 #![tactic(auto)]
 
-ghost use Rattle.std.specs.Prelude.{◌≡◌};
+ghost use Rattle.std.specs.Prelude.{◌≡◌, ℕ};
 ghost use Rattle.a32_digest.specs.Numbers.{bits_of, signed_numbers, mark_number, index_numbers, mem_numbers, operand_numbers, places_numbers};
 ghost use Rattle.a32_digest.specs.Numbers.{insn_numbers};
 ghost use Rattle.a32_digest.specs.Numbers.{answer_numbers};
 ghost use Rattle.a32_digest.specs.Digest.{mix, mixed, digest_of};
 
 use a32::decode;
-use insn::{Decoded, Index, Insn, Mem, Operand, PLACES, Place};
+use insn::{Decoded, Insn, Mem, Operand, PLACES, Place, Reg};
 
 /// The largest prime below 2^32: a digest and a number mix without overflow in 64 bits.
 const MODULUS: u64 = 4_294_967_291;
@@ -21,10 +21,8 @@ pub fn digest(h: u64, first: u32, count: u32, addr: u64) -> u64
     ensures { result ≡ digest_of h first count addr }
 {
     let mut s = State(h);
-    let mut i: u32 = 0;
-    while i < count {
-        s = s.answer(decode(std::num::wrapping_add_u32(first, i), addr));
-        i += 1;
+    for i in 0..count {
+        s = s.answer(decode(first.wrapping_add(i), addr));
     }
     s.0
 }
@@ -37,38 +35,29 @@ impl State {
     fn answer(self, d: Decoded) -> State
         ensures { result ≡ record { 0 = mixed self.0 (answer_numbers d) } }
     {
-        let i = d.insn;
-        if d.refusal == 0 {
-            self.byte(0).insn(i)
-        } else {
-            self.byte(d.refusal)
+        match d {
+            Ok(i) => self.long(0).insn(i),
+            Err(refusal) => self.number(refusal.number()),
         }
     }
 
     fn insn(self, i: Insn) -> State
         ensures { result ≡ record { 0 = mixed self.0 (insn_numbers i) } }
     {
-        let cond = i.cond;
-        let flow = i.flow;
-        let ops = i.ops;
         self.long(i.addr)
-            .half(i.name)
-            .byte(cond.0)
-            .byte(flow.number())
-            .word(flow.target())
-            .places(ops)
+            .number(i.name)
+            .number(i.cond.0)
+            .number(i.flow.number())
+            .number(i.flow.target())
+            .places(i.ops)
     }
 
     fn places(self, ops: [Place; PLACES]) -> State
         ensures { result ≡ record { 0 = mixed self.0 (places_numbers ops) } }
     {
         let mut s = self;
-        let mut n = 0;
-        while n < PLACES {
-            let place = ops[n];
-            let o = place.operand;
-            s = s.operand(o);
-            n += 1;
+        for place in ops {
+            s = s.operand(place.operand);
         }
         s
     }
@@ -77,47 +66,48 @@ impl State {
         ensures { result ≡ record { 0 = mixed self.0 (operand_numbers o) } }
     {
         match o {
-            Operand::Empty => self.byte(0),
-            Operand::Register(r) => self.byte(1).byte(r.0),
-            Operand::Shifted(r, kind, n) => self.byte(2).byte(r.0).byte(kind.number()).byte(n),
-            Operand::ShiftBy(kind, r) => self.byte(3).byte(kind.number()).byte(r.0),
-            Operand::SaturateShift(kind, n) => self.byte(4).byte(kind.number()).byte(n),
-            Operand::Rotate(n) => self.byte(5).byte(n),
-            Operand::Count(n) => self.byte(6).signed(n),
-            Operand::Number(n) => self.byte(7).word(n),
-            Operand::StatusMask(mask) => self.byte(8).byte(mask),
-            Operand::StatusSource(status) => self.byte(9).byte(status.number()),
-            Operand::WriteBack(r) => self.byte(10).byte(r.0),
-            Operand::List(list) => self.byte(11).half(list),
-            Operand::Address(a) => self.byte(12).word(a),
-            Operand::Memory(m) => self.byte(13).mem(m),
-            Operand::Option(n) => self.byte(14).byte(n),
-            Operand::Coprocessor(n) => self.byte(15).byte(n),
-            Operand::CoprocessorRegister(n) => self.byte(16).byte(n),
+            Operand::Empty => self.long(0),
+            Operand::Register(r) => self.long(1).number(r.0),
+            Operand::Shifted(r, kind, n) => self
+                .long(2)
+                .number(r.0)
+                .number(kind.number())
+                .number(n),
+            Operand::ShiftBy(kind, r) => self.long(3).number(kind.number()).number(r.0),
+            Operand::SaturateShift(kind, n) => self.long(4).number(kind.number()).number(n),
+            Operand::Rotate(n) => self.long(5).number(n),
+            Operand::Count(n) => self.long(6).signed(n),
+            Operand::Number(n) => self.long(7).number(n),
+            Operand::StatusMask(mask) => self.long(8).number(mask),
+            Operand::StatusSource(status) => self.long(9).number(status.number()),
+            Operand::WriteBack(r) => self.long(10).number(r.0),
+            Operand::List(list) => self.long(11).number(list),
+            Operand::Address(a) => self.long(12).number(a),
+            Operand::Memory(m) => self.long(13).mem(m),
+            Operand::Option(n) => self.long(14).number(n),
+            Operand::Coprocessor(n) => self.long(15).number(n),
+            Operand::CoprocessorRegister(n) => self.long(16).number(n),
         }
     }
 
     fn mem(self, m: Mem) -> State
         ensures { result ≡ record { 0 = mixed self.0 (mem_numbers m) } }
     {
-        let base = m.base;
-        let index = m.index;
-        let mode = m.mode;
-        self.byte(base.0)
-            .index(index)
+        self.number(m.base.0)
+            .index(m.index)
             .signed(m.disp)
-            .byte(mode.number())
-            .byte(m.size)
-            .mark(m.decimal)
-            .mark(m.minus_zero)
+            .number(m.mode.number())
+            .number(m.size)
+            .number(m.decimal)
+            .number(m.minus_zero)
     }
 
-    fn index(self, index: Index) -> State
+    fn index(self, index: Option<(Reg, u8)>) -> State
         ensures { result ≡ record { 0 = mixed self.0 (index_numbers index) } }
     {
         match index {
-            Index::Absent => self.byte(0).byte(0).byte(0),
-            Index::Left(r, n) => self.byte(1).byte(r.0).byte(n),
+            None => self.long(0).long(0).long(0),
+            Some((r, n)) => self.long(1).number(r.0).number(n),
         }
     }
 
@@ -128,30 +118,14 @@ impl State {
         self.long(bits >> 32).long(bits % 0x1_0000_0000)
     }
 
-    fn mark(self, x: bool) -> State
-        ensures { result ≡ record { 0 = mix self.0 (mark_number x) } }
+    /// One number, of the type that holds it.
+    fn number<T: Into<u64>>(self, x: T) -> State
+        ensures { (n : ℕ) × T.converts x n × (result ≡ record { 0 = mix self.0 n }) }
     {
-        self.long(x as u64)
+        self.long(x.into())
     }
 
-    fn byte(self, x: u8) -> State
-        ensures { result ≡ record { 0 = mix self.0 x } }
-    {
-        self.long(x as u64)
-    }
-
-    fn half(self, x: u16) -> State
-        ensures { result ≡ record { 0 = mix self.0 x } }
-    {
-        self.long(x as u64)
-    }
-
-    fn word(self, x: u32) -> State
-        ensures { result ≡ record { 0 = mix self.0 x } }
-    {
-        self.long(x as u64)
-    }
-
+    #[tactic(auto, unfolding(crate::specs::Digest::mix))]
     fn long(self, x: u64) -> State
         ensures { result ≡ record { 0 = mix self.0 x } }
     {

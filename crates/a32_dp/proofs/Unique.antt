@@ -1,6 +1,6 @@
 -- No second result fits a contract. Each line is about the contract itself, as the check reads it from the source.
 -- Assumes nothing.
-use mathlib.Core.Path.{◌∙◌, sym}
+use Rattle.std.proofs.Common.{◌∙◌, sym}
 use Rattle.word.specs.Only.{Only}
 use Rattle.a32_dp.proofs.dp_imm.dp_imm.Reads as dp_imm
 use Rattle.a32_dp.proofs.dp_imm.is_hint.Reads as is_hint

@@ -5,7 +5,7 @@ use Rattle.word.specs.Layout.{joined}
 use Rattle.word.specs.Choice.{pick, both}
 use Rattle.insn.specs.Answer.{accepted}
 use Rattle.insn.specs.Roots.{name}
-use Rattle.insn.specs.declared.Decoded.{Decoded}
+use Rattle.insn.specs.Answer.{Decoded}
 use Rattle.insn.specs.declared.Insn.{Insn}
 use Rattle.insn.specs.declared.Flow.{Flow}
 use Rattle.insn.specs.declared.Flow.TheVariants.{Next}

@@ -4,7 +4,7 @@ use Rattle.word.specs.Field.{field}
 use Rattle.word.specs.Choice.{pick}
 use Rattle.insn.specs.Answer.{filled, accepted}
 use Rattle.insn.specs.Roots.{name}
-use Rattle.insn.specs.declared.Decoded.{Decoded}
+use Rattle.insn.specs.Answer.{Decoded}
 use Rattle.insn.specs.declared.Insn.{Insn}
 use Rattle.insn.specs.declared.Flow.{Flow}
 use Rattle.insn.specs.declared.Flow.TheVariants.{Next, IndirectBranch, Return}

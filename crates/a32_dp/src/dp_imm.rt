@@ -1,12 +1,12 @@
 //! Data processing with an immediate, and what shares its slots.
 ghost use Rattle.std.specs.Prelude.{◌≡◌, ◌<◌};
-ghost use Rattle.a32_dp.specs.DpImm.{dp_imm_of, wide_of, msr_hint_of, hint_slot, hint_of, hint_named, msr_of, operation_of, valued, to_pc};
+ghost use Rattle.a32_dp.specs.DpImm.{dp_imm_of, wide_of, msr_hint_of, hint_slot, hint_of, msr_of, operation_of, valued, to_pc};
 
 use crate::names::lead;
 use a32_imm::so_imm_ops;
 use a32_shared::{RD, RN, at, op_at, pc_write, reg_at, status_mask};
-use insn::{Decoded, Flow, Insn, Operand, name, refuse};
-use word::refusal::NO_ROW;
+use insn::{Decoded, Flow, Insn, Operand, name};
+use word::refusal::Refusal;
 use word::{bits, bits_then};
 
 /// Table A5-6, plus `movw`, `movt` and the hints that share its slots.
@@ -26,10 +26,11 @@ pub fn dp_imm(w: u32, addr: u64) -> Decoded
 fn wide(w: u32, addr: u64, name: u16) -> Decoded
     ensures { result ≡ wide_of w addr name }
 {
-    at(w, addr, name, Flow::Next)
-        .with(0, op_at(w, RD))
-        .with(1, Operand::Number(bits_then(w, 19, 16, 11, 0)))
-        .accept()
+    Ok(
+        at(w, addr, name, Flow::Next)
+            .with(0, op_at(w, RD))
+            .with(1, Operand::Number(bits_then(w, 19, 16, 11, 0))),
+    )
 }
 
 fn msr_hint(w: u32, addr: u64) -> Decoded
@@ -43,32 +44,28 @@ fn msr_hint(w: u32, addr: u64) -> Decoded
 }
 
 /// An `msr` that writes nothing is a hint.
+#[tactic(auto, unfolding(crate::specs::DpImm::hint_slot))]
 pub fn is_hint(w: u32) -> bool
     ensures { result ≡ hint_slot w }
 {
     let rn = bits(w, 19, 16);
     let rd = bits(w, 15, 12);
-    if rn == 0b0000 { rd == 0b1111 } else { false }
+    rn == 0b0000 && rd == 0b1111
 }
 
 fn hint(w: u32, addr: u64) -> Decoded
     ensures { result ≡ hint_of w addr }
 {
     let n = bits(w, 7, 0);
-    match n {
-        0 => hint_named(w, addr, name::NOP),
-        1 => hint_named(w, addr, name::YIELD),
-        2 => hint_named(w, addr, name::WFE),
-        3 => hint_named(w, addr, name::WFI),
-        4 => hint_named(w, addr, name::SEV),
-        _ => refuse(NO_ROW),
-    }
-}
-
-fn hint_named(w: u32, addr: u64, name: u16) -> Decoded
-    ensures { result ≡ hint_named w addr name }
-{
-    at(w, addr, name, Flow::Next).accept()
+    let name = match n {
+        0 => name::NOP,
+        1 => name::YIELD,
+        2 => name::WFE,
+        3 => name::WFI,
+        4 => name::SEV,
+        _ => return Err(Refusal::NoRow),
+    };
+    Ok(at(w, addr, name, Flow::Next))
 }
 
 fn msr(w: u32, addr: u64) -> Decoded
@@ -111,9 +108,10 @@ fn is_to_pc(w: u32) -> bool
 }
 
 /// The immediate of an operation, from operand place `n` on.
+#[tactic(auto, using(word::specs::Field::small))]
 fn value(i: Insn, n: usize, w: u32, unsigned: bool) -> Decoded
     requires { n < 3 }
     ensures { result ≡ valued i n w unsigned }
 {
-    so_imm_ops(i, n, bits(w, 11, 0), unsigned).accept()
+    Ok(so_imm_ops(i, n, bits(w, 11, 0), unsigned))
 }

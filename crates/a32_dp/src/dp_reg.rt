@@ -5,7 +5,7 @@ ghost use Rattle.a32_dp.specs.DpReg.{dp_reg_of, mov_of, mov_count_of, mov_flow, 
 use crate::names::{lead, shift_name};
 use a32_shared::{
     RD, RM, RN, RS, at, by_s, count, decode_shift, is_plain, is_rrx, op_at, pc_write, reg_at,
-    shift_by_reg, shifted, three, two,
+    registers, shift_by_reg, shifted,
 };
 use insn::{Decoded, Flow, Insn, name};
 use word::{bit, bits};
@@ -34,11 +34,9 @@ fn source(i: Insn, n: usize, w: u32) -> Decoded
 {
     let by = bit(w, 4);
     if by == 0 {
-        i.with(n, shifted(w)).accept()
+        Ok(i.with(n, shifted(w)))
     } else {
-        i.with(n, op_at(w, RM))
-            .with(n + 1, shift_by_reg(w))
-            .accept()
+        Ok(i.with(n, op_at(w, RM)).with(n + 1, shift_by_reg(w)))
     }
 }
 
@@ -48,14 +46,26 @@ fn mov(w: u32, addr: u64) -> Decoded
     let by = bit(w, 4);
     if by == 0 {
         if is_plain(w) {
-            return two(w, addr, by_s(w, name::MOV, name::MOVS), mov_flow(w), RD, RM);
+            return registers(
+                w,
+                addr,
+                by_s(w, name::MOV, name::MOVS),
+                mov_flow(w),
+                [RD, RM],
+            );
         }
         if is_rrx(w) {
-            return two(w, addr, by_s(w, name::RRX, name::RRXS), pc_write(w), RD, RM);
+            return registers(
+                w,
+                addr,
+                by_s(w, name::RRX, name::RRXS),
+                pc_write(w),
+                [RD, RM],
+            );
         }
         mov_count(w, addr)
     } else {
-        three(w, addr, shift_name(w), pc_write(w), RD, RM, RS)
+        registers(w, addr, shift_name(w), pc_write(w), [RD, RM, RS])
     }
 }
 
@@ -63,27 +73,25 @@ fn mov(w: u32, addr: u64) -> Decoded
 fn mov_flow(w: u32) -> Flow
     ensures { result ≡ mov_flow w }
 {
-    let rd = reg_at(w, RD);
-    let rm = reg_at(w, RM);
-    if rd.is_pc() {
-        if rm.is_lr() {
-            Flow::Return
-        } else {
-            Flow::IndirectBranch
-        }
-    } else {
+    if !reg_at(w, RD).is_pc() {
         Flow::Next
+    } else if reg_at(w, RM).is_lr() {
+        Flow::Return
+    } else {
+        Flow::IndirectBranch
     }
 }
 
+#[tactic(auto, using(word::specs::Field::small))]
 fn mov_count(w: u32, addr: u64) -> Decoded
     ensures { result ≡ mov_count_of w addr }
 {
     let shift = decode_shift(bits(w, 6, 5), bits(w, 11, 7));
     let n = shift.amount as u32;
-    at(w, addr, shift_name(w), pc_write(w))
-        .with(0, op_at(w, RD))
-        .with(1, op_at(w, RM))
-        .with(2, count(n))
-        .accept()
+    Ok(
+        at(w, addr, shift_name(w), pc_write(w))
+            .with(0, op_at(w, RD))
+            .with(1, op_at(w, RM))
+            .with(2, count(n)),
+    )
 }

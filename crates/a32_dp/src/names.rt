@@ -4,10 +4,11 @@ ghost use Rattle.insn.specs.Answer.{empty, filled};
 ghost use Rattle.a32_shared.specs.Row.{cond_of, reg_of};
 ghost use Rattle.a32_dp.specs.Names.{dp_name, shift_name};
 
-use a32_shared::{at, op_at};
+use a32_shared::{at, by_s, op_at};
 use insn::{Flow, Insn, name};
-use word::{bit, bits};
+use word::bits;
 
+// Two arrays and no array of pairs, as the Rust has them.
 const DP: [u16; 16] = [
     name::AND,
     name::EOR,
@@ -51,21 +52,21 @@ const SHIFTS: [u16; 4] = [name::LSL, name::LSR, name::ASR, name::ROR];
 const SHIFTS_S: [u16; 4] = [name::LSLS, name::LSRS, name::ASRS, name::RORS];
 
 /// The operation of bits 24:21, with `s` where bit 20 is set.
+#[tactic(auto, unfolding(crate::specs::Names::dp_name), using(word::specs::Field::small))]
 pub fn dp_name(w: u32) -> u16
     ensures { result ≡ dp_name w }
 {
     let op = bits(w, 24, 21) as usize;
-    let s = bit(w, 20);
-    if s == 0 { DP[op] } else { DP_S[op] }
+    by_s(w, DP[op], DP_S[op])
 }
 
 /// The shift of bits 6:5, with `s` where bit 20 is set.
+#[tactic(auto, unfolding(crate::specs::Names::shift_name), using(word::specs::Field::small))]
 pub fn shift_name(w: u32) -> u16
     ensures { result ≡ shift_name w }
 {
     let ty = bits(w, 6, 5) as usize;
-    let s = bit(w, 20);
-    if s == 0 { SHIFTS[ty] } else { SHIFTS_S[ty] }
+    by_s(w, SHIFTS[ty], SHIFTS_S[ty])
 }
 
 /// An operation before its source: its name, and a register at the first place.

@@ -1,5 +1,6 @@
 -- What an address does to an answer: it is in it, and the target of a branch goes with it. Nothing else depends on it. Assumes nothing.
 use mathlib.Core.Path.{◌≡◌, refl, sym, ap, ◌∙◌}
+use Rattle.word.specs.Refusal.{refused_with}
 use mathlib.Core.Bool.{Bool, true, false}
 use Prim.Native.Nat.{ℕ}
 use native.Mathlib.Omega.{arith}
@@ -7,8 +8,8 @@ use borrow.Author.Tests.{eqb-true, eqb-false}
 use lib.Dec.{eqb}
 use Rattle.word.specs.Choice.{pick, by_test}
 use Rattle.word.specs.Field.{field}
-use Rattle.insn.specs.Answer.{insn_of, accepted, refused}
-use Rattle.insn.specs.declared.Decoded.{Decoded}
+use Rattle.insn.specs.Answer.{insn_of, accepted, refused, insn_in}
+use Rattle.insn.specs.Answer.{Decoded}
 use Rattle.insn.specs.declared.Insn.{Insn}
 use Rattle.a32_transfer.specs.Branch.{target_from}
 use Rattle.a32.specs.Decode.{decode_of}
@@ -33,10 +34,10 @@ accepted_at b i = unfold at in refl
 ruleset laws = (through, no_row_at, coprocessor_at, accepted_at)
 
 -- its parts
-refusal_at : (b : ℕ) (d : Decoded) → (at b d).refusal ≡ d.refusal
-refusal_at b d = unfold at in by_test (eqb d.refusal 0) (λ e. simp e (sym (eqb-true d.refusal 0 e))) (λ e. simp e)
+refusal_at : (b : ℕ) (d : Decoded) → refused_with (at b d) ≡ refused_with d
+refusal_at b d = unfold at in by_test (eqb (refused_with d) 0) (λ e. simp e (sym (eqb-true (refused_with d) 0 e))) (λ e. simp e)
 
-address_at : (b : ℕ) (d : Decoded) → d.refusal ≡ 0 → (at b d).insn.addr ≡ b
+address_at : (b : ℕ) (d : Decoded) → refused_with d ≡ 0 → (insn_in (at b d)).addr ≡ b
 address_at b d ok = unfold at in simp ok
 
 -- a target goes with the address that it is reckoned from
@@ -82,19 +83,19 @@ module _ (w a b : ℕ) where
       of : {row : ℕ → ℕ → Decoded} → Group w row → row w b ≡ moved a b (row w a) → decode_of w b ≡ moved a b (decode_of w a)
       of group goes = reaches w group b ∙ goes ∙ ap (moved a b) (sym (reaches w group a))
 
-branch_accepted : (w addr : ℕ) → field w 25 3 ≡ 5 → (decode_of w addr).refusal ≡ 0
-branch_accepted w addr g = unfold moved in ap (λ (d : Decoded). d.refusal) (target_elsewhere w addr addr g)
+branch_accepted : (w addr : ℕ) → field w 25 3 ≡ 5 → refused_with (decode_of w addr) ≡ 0
+branch_accepted w addr g = unfold moved in ap (λ (d : Decoded). refused_with d) (target_elsewhere w addr addr g)
 
 -- a word is refused at every address or at none, with one number
-pub refused_anywhere : (w a b : ℕ) → (decode_of w a).refusal ≡ (decode_of w b).refusal
+pub refused_anywhere : (w a b : ℕ) → refused_with (decode_of w a) ≡ refused_with (decode_of w b)
 refused_anywhere w a b =
     by_test (eqb (field w 25 3) 5)
     (λ g. branch_accepted w a (eqb-true _ 5 g) ∙ sym (branch_accepted w b (eqb-true _ 5 g)))
-    (λ other. sym (ap (λ (d : Decoded). d.refusal) (same_elsewhere w a b other) ∙ refusal_at b (decode_of w a)))
+    (λ other. sym (ap (λ (d : Decoded). refused_with d) (same_elsewhere w a b other) ∙ refusal_at b (decode_of w a)))
 
 -- an accepted answer holds the address that it was asked at
-pub keeps_address : (w addr : ℕ) → (decode_of w addr).refusal ≡ 0 → (decode_of w addr).insn.addr ≡ addr
+pub keeps_address : (w addr : ℕ) → refused_with (decode_of w addr) ≡ 0 → (insn_in (decode_of w addr)).addr ≡ addr
 keeps_address w addr ok = unfold moved in
     by_test (eqb (field w 25 3) 5)
-    (λ g. ap (λ (d : Decoded). d.insn.addr) (target_elsewhere w addr addr (eqb-true _ 5 g)))
-    (λ other. ap (λ (d : Decoded). d.insn.addr) (same_elsewhere w addr addr other) ∙ address_at addr (decode_of w addr) ok)
+    (λ g. ap (λ (d : Decoded). (insn_in d).addr) (target_elsewhere w addr addr (eqb-true _ 5 g)))
+    (λ other. ap (λ (d : Decoded). (insn_in d).addr) (same_elsewhere w addr addr other) ∙ address_at addr (decode_of w addr) ok)

@@ -1,16 +1,17 @@
 -- An answer as it stands at another address.
 use Rattle.std.specs.Prelude.{[], ◌∷◌, ℕ, ◌+◌, ◌-◌, ◌%◌, ◌^◌, eqb}
+use Rattle.word.specs.Refusal.{refused_with}
 use Rattle.word.specs.Choice.{pick}
-use Rattle.insn.specs.Answer.{insn_of, places, accepted}
+use Rattle.insn.specs.Answer.{insn_of, places, accepted, insn_in}
 use Rattle.insn.specs.Numbers.{flow_target}
-use Rattle.insn.specs.declared.Decoded.{Decoded}
+use Rattle.insn.specs.Answer.{Decoded}
 use Rattle.insn.specs.declared.Flow.{Flow}
 use Rattle.insn.specs.declared.Flow.TheVariants.{Next, Branch, CondBranch, IndirectBranch, Call, IndirectCall, Return, Trap}
 use Rattle.insn.specs.declared.Operand.TheVariants.{Address}
 
 -- 01: "address (64 bits, as given)". An answer with another address; a refusal has none
 unfoldable pub at : ℕ → Decoded → Decoded
-at b d = pick (eqb d.refusal 0) (accepted (insn_of b d.insn.name d.insn.cond d.insn.flow d.insn.ops)) d
+at b d = pick (eqb (refused_with d) 0) (accepted (insn_of b (insn_in d).name (insn_in d).cond (insn_in d).flow (insn_in d).ops)) d
 
 -- "the low 32 bits of address + 8 + 4 x signed 23:0": as far from b as `to` is from a
 abbrev pub onward : ℕ → ℕ → ℕ → ℕ
@@ -30,5 +31,5 @@ flow_from a b Trap = Trap
 unfoldable pub moved : ℕ → ℕ → Decoded → Decoded
 moved a b d =
     accepted
-    (insn_of b d.insn.name d.insn.cond (flow_from a b d.insn.flow)
-    (places (Address (onward a b (flow_target d.insn.flow)) ∷ [])))
+    (insn_of b (insn_in d).name (insn_in d).cond (flow_from a b (insn_in d).flow)
+    (places (Address (onward a b (flow_target (insn_in d).flow)) ∷ [])))

@@ -1,11 +1,12 @@
 -- What every answer is, by all groups of the decoder. Assumes nothing.
 use mathlib.Core.Path.{◌≡◌, refl}
+use Rattle.word.specs.Refusal.{refused_with}
 use mathlib.Core.Bool.{Bool, true, false, not}
 use Prim.Native.Nat.{ℕ}
 use lib.Dec.{eqb}
 use Rattle.word.specs.Choice.{pick, both, by_test}
-use Rattle.insn.specs.Answer.{accepted, refused}
-use Rattle.insn.specs.declared.Decoded.{Decoded}
+use Rattle.insn.specs.Answer.{accepted, refused, insn_in}
+use Rattle.insn.specs.Answer.{Decoded}
 use Rattle.insn.specs.declared.Flow.{Flow}
 use Rattle.insn.specs.declared.Insn.{Insn}
 use Rattle.a32_coproc.specs.Coproc.{floating_of}
@@ -17,7 +18,7 @@ use Rattle.a32_every.specs.Branch.{is_branch, is_only_b}
 
 -- accepted, and then a b if it branches; or refused with 3, or with 2, which only a word out of demand 2's range is
 unfoldable pub settled : Bool → Decoded → Bool
-settled range d = pick (eqb d.refusal 0) (is_only_b d.insn) (pick (eqb d.refusal 3) true (both (not range) (eqb d.refusal 2)))
+settled range d = pick (eqb (refused_with d) 0) (is_only_b (insn_in d)) (pick (eqb (refused_with d) 3) true (both (not range) (eqb (refused_with d) 2)))
 
 module _ (range : Bool) where
   through : (b : Bool) (x y : Decoded) → settled range (pick b x y) ≡ pick b (settled range x) (settled range y)

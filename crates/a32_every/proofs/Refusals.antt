@@ -1,5 +1,6 @@
 -- What the decoder refuses it refuses with 2 out of demand 2's range, and with 3 within it. Assumes nothing.
 use mathlib.Core.Path.{◌≡◌, sym, ap, ◌∙◌}
+use Rattle.word.specs.Refusal.{refused_with}
 use mathlib.Core.Bool.{true, false, true≢false}
 use mathlib.Core.Logic.{◌⊎◌, inl, inr}
 use Prim.Native.Nat.{ℕ}
@@ -8,7 +9,7 @@ use lib.Dec.{eqb}
 use Rattle.word.specs.Choice.{by_test}
 use Rattle.word.specs.Field.{field}
 use Rattle.insn.specs.Answer.{refused}
-use Rattle.insn.specs.declared.Decoded.{Decoded}
+use Rattle.insn.specs.Answer.{Decoded}
 use Rattle.a32_coproc.specs.Coproc.{floating_of}
 use Rattle.a32.specs.Decode.{decode_of}
 use Rattle.a32.proofs.Groups.{coprocessor}
@@ -30,16 +31,16 @@ module _ (w addr : ℕ) where
       (λ f. absurd (true≢false (simp (c, p, f) at out))))
       (λ p. absurd (true≢false (simp (c, p) at out))))
 
-  pub refused_within : in_range w ≡ true → ((decode_of w addr).refusal ≡ 0 → ⊥) → decode_of w addr ≡ refused 3
+  pub refused_within : in_range w ≡ true → (refused_with (decode_of w addr) ≡ 0 → ⊥) → decode_of w addr ≡ refused 3
   refused_within range bad = unfold settled in
-      let n = (decode_of w addr).refusal in
+      let n = (refused_with (decode_of w addr)) in
       (all_good w addr).empty bad
       ∙ ap refused (by_test (eqb n 3)
       (λ e. eqb-true n 3 e)
       (λ e. absurd (true≢false (sym (simp (ne_eqb n 0 bad, e, range) at (every w addr))))))
 
-  pub two_or_three : ((decode_of w addr).refusal ≡ 0 → ⊥) → ((decode_of w addr).refusal ≡ 2) ⊎ ((decode_of w addr).refusal ≡ 3)
+  pub two_or_three : (refused_with (decode_of w addr) ≡ 0 → ⊥) → (refused_with (decode_of w addr) ≡ 2) ⊎ (refused_with (decode_of w addr) ≡ 3)
   two_or_three bad =
       by_test (in_range w)
-      (λ range. inr (ap (λ (d : Decoded). d.refusal) (refused_within range bad)))
-      (λ out. inl (ap (λ (d : Decoded). d.refusal) (refused_out out)))
+      (λ range. inr (ap (λ (d : Decoded). refused_with d) (refused_within range bad)))
+      (λ out. inl (ap (λ (d : Decoded). refused_with d) (refused_out out)))

@@ -1,8 +1,9 @@
 -- Which answers branch to an address (02, P2).
 use Rattle.std.specs.Prelude.{Bool, true, false, eqb}
+use Rattle.word.specs.Refusal.{refused_with}
 use Rattle.word.specs.Choice.{pick}
 use Rattle.insn.specs.Roots.{name}
-use Rattle.insn.specs.declared.Decoded.{Decoded}
+use Rattle.insn.specs.Answer.{Decoded, insn_in}
 use Rattle.insn.specs.declared.Flow.{Flow}
 use Rattle.insn.specs.declared.Flow.TheVariants.{Next, Branch, CondBranch, IndirectBranch, Call, IndirectCall, Return, Trap}
 use Rattle.insn.specs.declared.Insn.{Insn}
@@ -22,4 +23,4 @@ abbrev pub is_only_b : Insn → Bool
 is_only_b i = pick (is_branch i.flow) (eqb i.name (name "b")) true
 
 unfoldable pub only_b : Decoded → Bool
-only_b d = pick (eqb d.refusal 0) (is_only_b d.insn) true
+only_b d = pick (eqb (refused_with d) 0) (is_only_b (insn_in d)) true

@@ -12,16 +12,16 @@ use table::least_field;
 use word::bits;
 
 /// The A32 modified immediate: an eight-bit value rotated right by twice the four-bit field above it.
+#[tactic(auto, using(crate::specs::Closed::rotated_is, word::specs::Field::small))]
 pub fn so_imm(imm12: u32) -> u32
     requires { imm12 < 4096 }
     ensures { result ≡ so_imm_of imm12 }
 {
-    let byte = bits(imm12, 7, 0) as u64;
-    let wide = byte << (32 - 2 * bits(imm12, 11, 8));
-    (wide / 0x1_0000_0000 + wide % 0x1_0000_0000) as u32
+    bits(imm12, 7, 0).rotate_right(2 * bits(imm12, 11, 8))
 }
 
 /// Whether no smaller rotation can name the value of `imm12`: its entry names itself.
+#[tactic(auto, using(crate::specs::Least::names_itself))]
 pub fn is_least(imm12: u32) -> bool
     requires { imm12 < 4096 }
     ensures { result ≡ least_of imm12 }
@@ -43,6 +43,7 @@ fn value(imm12: u32, unsigned: bool) -> Operand
 
 /// How LLVM spells one, from operand place `n` on. It prints the value when the encoding uses the smallest rotation that
 /// can name it, and the encoded `#bits, #rot` pair when it does not, because only the pair assembles back to these bits.
+#[tactic(auto, using(word::specs::Field::small))]
 pub fn so_imm_ops(i: Insn, n: usize, imm12: u32, unsigned: bool) -> Insn
     requires { (n < 3) × (imm12 < 4096) }
     ensures { result ≡ imm_filled i n imm12 unsigned }

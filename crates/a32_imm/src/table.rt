@@ -13,6 +13,7 @@ pub fn least_field(imm12: u32) -> u16
 }
 
 /// An entry of a table that is one of least fields, by one test over all of it.
+#[tactic(auto, using(crate::specs::Table::listed))]
 fn entry(table: &[u16], n: usize) -> u16
     requires { (n < length table.now) × (lists least_field 0 table.now ≡ true) }
     ensures { result ≡ least_field n }

@@ -1,6 +1,6 @@
 -- No second result fits a contract. Each line is about the contract itself, as the check reads it from the source.
 -- Assumes nothing.
-use mathlib.Core.Path.{◌∙◌, sym}
+use Rattle.std.proofs.Common.{◌∙◌, sym}
 use Rattle.word.specs.Only.{Only}
 use Rattle.a32_ldst.proofs.mem.is_unprivileged.Reads as is_unprivileged
 use Rattle.a32_ldst.proofs.mem.mode.Reads as mode

@@ -3,7 +3,7 @@ use Rattle.std.specs.Prelude.{Bool, not, [], ◌∷◌, ℕ, eqb}
 use Rattle.word.specs.Field.{field}
 use Rattle.word.specs.Choice.{pick, both}
 use Rattle.insn.specs.Roots.{name}
-use Rattle.insn.specs.declared.Decoded.{Decoded}
+use Rattle.insn.specs.Answer.{Decoded}
 use Rattle.insn.specs.declared.Flow.{Flow}
 use Rattle.insn.specs.declared.Flow.TheVariants.{Next}
 use Rattle.insn.specs.declared.Operand.{Operand}

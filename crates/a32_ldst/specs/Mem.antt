@@ -1,13 +1,12 @@
 -- What 01's paragraphs "Extra load/store" and "Load/store" say alike: the bits, the mode, and the memory forms.
-use Rattle.std.specs.Prelude.{Bool, true, false, not, ℕ, eqb, ℤ, pos}
+use Rattle.std.specs.Prelude.{Bool, true, false, not, ℕ, eqb, ℤ, pos, Some, None}
 use Rattle.word.specs.Field.{field}
 use Rattle.word.specs.Choice.{pick, both}
 use Rattle.word.specs.Signed.{minus}
 use Rattle.insn.specs.declared.AddrMode.{AddrMode}
 use Rattle.insn.specs.declared.AddrMode.TheVariants.{Offset, PreIndex, PostIndex}
-use Rattle.insn.specs.declared.Index.{Index}
-use Rattle.insn.specs.declared.Index.TheVariants.{Absent, Left}
 use Rattle.insn.specs.declared.Operand.{Operand}
+use Rattle.insn.specs.Memory.{Index}
 use Rattle.insn.specs.declared.Operand.TheVariants.{Memory}
 use Rattle.a32_shared.specs.Row.{rn, rm, register_of}
 
@@ -65,8 +64,8 @@ form_of w index disp size decimal minus_zero =
     Memory (record { base = register_of w rn; index = index; disp = disp; mode = mode_of w; size = size; decimal = decimal; minus_zero = minus_zero })
 
 abbrev pub with_disp_of : ℕ → ℕ → ℕ → Bool → Bool → Operand
-with_disp_of w off size decimal minus_zero = form_of w Absent (disp_of w off) size decimal minus_zero
+with_disp_of w off size decimal minus_zero = form_of w None (disp_of w off) size decimal minus_zero
 
 -- "index Rm"
 abbrev pub with_index_of : ℕ → ℕ → ℕ → Bool → Operand
-with_index_of w shift size decimal = form_of w (Left (register_of w rm) shift) (pos 0) size decimal false
+with_index_of w shift size decimal = form_of w (Some (register_of w rm, shift)) (pos 0) size decimal false

@@ -4,8 +4,8 @@ ghost use Rattle.a32_ldst.specs.ExtraLdst.{extra_ldst_of, subtracted_index_of, m
 
 use super::mem::{L, U, is_minus_zero, is_unprivileged, with_disp, with_index};
 use a32_shared::{RD, at, op_at, reg};
-use insn::{Decoded, Flow, Operand, name, refuse};
-use word::refusal::NO_ROW;
+use insn::{Decoded, Flow, Operand, name};
+use word::refusal::Refusal;
 use word::{bit, bits, bits_then};
 
 /// Set beside a displacement, clear beside an index.
@@ -18,45 +18,28 @@ pub fn extra_ldst(w: u32, addr: u64) -> Decoded
 {
     let op = bits(w, 6, 5);
     let l = bit(w, L);
-    if is_unprivileged(w) {
-        return refuse(NO_ROW);
+    if is_unprivileged(w) || is_subtracted_index(w) {
+        return Err(Refusal::NoRow);
     }
-    if is_subtracted_index(w) {
-        return refuse(NO_ROW);
-    }
-    match op {
-        0b01 => {
-            if l == 0 {
-                single(w, addr, name::STRH, 2)
-            } else {
-                single(w, addr, name::LDRH, 2)
-            }
-        }
-        0b10 => {
-            if l == 0 {
-                pair(w, addr, name::LDRD)
-            } else {
-                single(w, addr, name::LDRSB, 1)
-            }
-        }
-        0b11 => {
-            if l == 0 {
-                pair(w, addr, name::STRD)
-            } else {
-                single(w, addr, name::LDRSH, 2)
-            }
-        }
-        _ => refuse(NO_ROW),
+    match (op, l) {
+        (0b01, 0) => single(w, addr, name::STRH, 2),
+        (0b01, _) => single(w, addr, name::LDRH, 2),
+        (0b10, 0) => pair(w, addr, name::LDRD),
+        (0b10, _) => single(w, addr, name::LDRSB, 1),
+        (0b11, 0) => pair(w, addr, name::STRD),
+        (0b11, _) => single(w, addr, name::LDRSH, 2),
+        _ => Err(Refusal::NoRow),
     }
 }
 
 /// A subtracted index has nowhere to live in `Mem`.
+#[tactic(auto, unfolding(crate::specs::ExtraLdst::subtracted_index_of))]
 fn is_subtracted_index(w: u32) -> bool
     ensures { result ≡ subtracted_index_of w }
 {
     let imm = bit(w, IMMEDIATE);
     let u = bit(w, U);
-    if imm == 0 { u == 0 } else { false }
+    imm == 0 && u == 0
 }
 
 fn memory(w: u32, size: u8) -> Operand
@@ -75,10 +58,11 @@ fn memory(w: u32, size: u8) -> Operand
 fn single(w: u32, addr: u64, name: u16, size: u8) -> Decoded
     ensures { result ≡ single_of w addr name size }
 {
-    at(w, addr, name, Flow::Next)
-        .with(0, op_at(w, RD))
-        .with(1, memory(w, size))
-        .accept()
+    Ok(
+        at(w, addr, name, Flow::Next)
+            .with(0, op_at(w, RD))
+            .with(1, memory(w, size)),
+    )
 }
 
 /// The doubleword accesses, of an even register and the next.
@@ -87,11 +71,12 @@ fn pair(w: u32, addr: u64, name: u16) -> Decoded
 {
     let rd = bits(w, 15, 12);
     if rd % 2 == 1 {
-        return refuse(NO_ROW);
+        return Err(Refusal::NoRow);
     }
-    at(w, addr, name, Flow::Next)
-        .with(0, op_at(w, RD))
-        .with(1, Operand::Register(reg(rd + 1)))
-        .with(2, memory(w, 8))
-        .accept()
+    Ok(
+        at(w, addr, name, Flow::Next)
+            .with(0, op_at(w, RD))
+            .with(1, Operand::Register(reg(rd + 1)))
+            .with(2, memory(w, 8)),
+    )
 }

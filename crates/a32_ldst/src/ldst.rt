@@ -4,8 +4,8 @@ ghost use Rattle.a32_ldst.specs.Ldst.{ldst_of, refused_index_of, memory_of, size
 
 use super::mem::{L, U, is_minus_zero, is_post, is_unprivileged, mode, with_disp, with_index};
 use a32_shared::{RD, at, op_at, pc_write};
-use insn::{AddrMode, Decoded, Flow, Operand, name, refuse};
-use word::refusal::NO_ROW;
+use insn::{AddrMode, Decoded, Flow, Operand, name};
+use word::refusal::Refusal;
 use word::{bit, bits};
 
 /// Set beside an index, clear beside a displacement.
@@ -19,30 +19,27 @@ pub fn ldst(w: u32, addr: u64) -> Decoded
     ensures { result ≡ ldst_of w addr }
 {
     if is_refused_index(w) {
-        return refuse(NO_ROW);
+        return Err(Refusal::NoRow);
     }
-    at(w, addr, name(w), flow(w))
-        .with(0, op_at(w, RD))
-        .with(1, memory(w))
-        .accept()
+    Ok(
+        at(w, addr, name(w), flow(w))
+            .with(0, op_at(w, RD))
+            .with(1, memory(w)),
+    )
 }
 
 /// A subtracted or non-`lsl` index has nowhere to live in `Mem`.
+#[tactic(auto, unfolding(crate::specs::Ldst::refused_index_of))]
 fn is_refused_index(w: u32) -> bool
     ensures { result ≡ refused_index_of w }
 {
     let reg_form = bit(w, REG_FORM);
     let u = bit(w, U);
     let kind = bits(w, 6, 5);
-    if reg_form == 0 {
-        false
-    } else if u == 0 {
-        true
-    } else {
-        kind != 0
-    }
+    reg_form != 0 && (u == 0 || kind != 0)
 }
 
+#[tactic(auto, using(word::specs::Field::small))]
 fn memory(w: u32) -> Operand
     ensures { result ≡ memory_of w }
 {
@@ -63,16 +60,11 @@ fn size(w: u32) -> u8
 }
 
 /// A subtracted zero is marked where the base is written back, and nowhere else.
+#[tactic(auto, unfolding(crate::specs::Ldst::marked_of))]
 fn is_marked(w: u32, off: u32) -> bool
     ensures { result ≡ marked_of w off }
 {
-    let mode = mode(w);
-    let minus_zero = is_minus_zero(w, off);
-    match mode {
-        AddrMode::Offset => false,
-        AddrMode::PreIndex => minus_zero,
-        AddrMode::PostIndex => minus_zero,
-    }
+    mode(w) != AddrMode::Offset && is_minus_zero(w, off)
 }
 
 fn name(w: u32) -> u16
@@ -89,12 +81,11 @@ fn name(w: u32) -> u16
 fn by_lb(w: u32, store: u16, storeb: u16, load: u16, loadb: u16) -> u16
     ensures { result ≡ by_lb w store storeb load loadb }
 {
-    let l = bit(w, L);
-    let b = bit(w, B);
-    if l == 0 {
-        if b == 0 { store } else { storeb }
-    } else {
-        if b == 0 { load } else { loadb }
+    match (bit(w, L), bit(w, B)) {
+        (0, 0) => store,
+        (0, _) => storeb,
+        (_, 0) => load,
+        _ => loadb,
     }
 }
 

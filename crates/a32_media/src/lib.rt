@@ -5,9 +5,9 @@ ghost use Rattle.std.specs.Prelude.{◌≡◌};
 ghost use Rattle.a32_media.specs.Media.{media_of, udf_of, bfx_of, bf_of, bf_width_of, div_of, ssat_of, usat_of, sat_of, sat_shift_of, rev_or_extend_of, rev_of};
 ghost use Rattle.a32_media.specs.Media.{extend_of, extend_by_of, rotate_of};
 
-use a32_shared::{RD, RM, RN, RS, at, count, op_at, reg_at, shift_amount, three, two};
-use insn::{Decoded, Flow, Operand, Shift, name, refuse};
-use word::refusal::NO_ROW;
+use a32_shared::{RD, RM, RN, RS, at, count, op_at, reg_at, registers, shift_amount};
+use insn::{Decoded, Flow, Operand, Shift, name};
+use word::refusal::Refusal;
 use word::{bit, bits, bits_then};
 
 /// Table A5-13: the extends, the bitfields, `rev`, the divides, the saturates and `udf`.
@@ -18,51 +18,21 @@ pub fn media(w: u32, addr: u64) -> Decoded
     let op2 = bits(w, 7, 5);
     let sat = bits(w, 5, 4);
     match op1 {
-        0b11111 => {
-            if op2 == 0b111 {
-                udf(w, addr)
-            } else {
-                bfx(w, addr, name::UBFX)
-            }
-        }
-        0b11010 => bfx(w, addr, name::SBFX),
-        0b11011 => bfx(w, addr, name::SBFX),
-        0b11110 => bfx(w, addr, name::UBFX),
-        0b11100 => bf(w, addr),
-        0b11101 => bf(w, addr),
+        0b11111 if op2 == 0b111 => udf(w, addr),
+        0b11010 | 0b11011 => bfx(w, addr, name::SBFX),
+        0b11110 | 0b11111 => bfx(w, addr, name::UBFX),
+        0b11100 | 0b11101 => bf(w, addr),
         0b10001 => div(w, addr, name::SDIV),
         0b10011 => div(w, addr, name::UDIV),
-        0b01010 => {
-            if sat == 0b01 {
-                ssat(w, addr)
-            } else {
-                extend(w, addr, name::SXTB, name::SXTAB)
-            }
-        }
-        0b01011 => {
-            if sat == 0b01 {
-                ssat(w, addr)
-            } else {
-                rev_or_extend(w, addr, name::REV, name::REV16, name::SXTH, name::SXTAH)
-            }
-        }
-        0b01110 => {
-            if sat == 0b01 {
-                usat(w, addr)
-            } else {
-                extend(w, addr, name::UXTB, name::UXTAB)
-            }
-        }
-        0b01111 => {
-            if sat == 0b01 {
-                usat(w, addr)
-            } else {
-                rev_or_extend(w, addr, name::RBIT, name::REVSH, name::UXTH, name::UXTAH)
-            }
-        }
+        0b01010 | 0b01011 if sat == 0b01 => ssat(w, addr),
+        0b01110 | 0b01111 if sat == 0b01 => usat(w, addr),
+        0b01010 => extend(w, addr, name::SXTB, name::SXTAB),
+        0b01011 => rev_or_extend(w, addr, name::REV, name::REV16, name::SXTH, name::SXTAH),
+        0b01110 => extend(w, addr, name::UXTB, name::UXTAB),
+        0b01111 => rev_or_extend(w, addr, name::RBIT, name::REVSH, name::UXTH, name::UXTAH),
         0b01000 => extend(w, addr, name::SXTB16, name::SXTAB16),
         0b01100 => extend(w, addr, name::UXTB16, name::UXTAB16),
-        _ => refuse(NO_ROW),
+        _ => Err(Refusal::NoRow),
     }
 }
 
@@ -70,43 +40,40 @@ pub fn media(w: u32, addr: u64) -> Decoded
 fn udf(w: u32, addr: u64) -> Decoded
     ensures { result ≡ udf_of w addr }
 {
-    at(w, addr, name::UDF, Flow::Trap)
-        .with(0, Operand::Number(bits_then(w, 19, 8, 3, 0)))
-        .accept()
+    Ok(at(w, addr, name::UDF, Flow::Trap).with(0, Operand::Number(bits_then(w, 19, 8, 3, 0))))
 }
 
 /// The bitfield extracts, signed and unsigned.
+#[tactic(auto, using(word::specs::Field::small))]
 fn bfx(w: u32, addr: u64, name: u16) -> Decoded
     ensures { result ≡ bfx_of w addr name }
 {
     let op2 = bits(w, 6, 5);
     if op2 == 0b10 {
-        at(w, addr, name, Flow::Next)
-            .with(0, op_at(w, RD))
-            .with(1, op_at(w, RM))
-            .with(2, Operand::Number(bits(w, 11, 7)))
-            .with(3, Operand::Number(bits(w, 20, 16) + 1))
-            .accept()
+        Ok(
+            at(w, addr, name, Flow::Next)
+                .with(0, op_at(w, RD))
+                .with(1, op_at(w, RM))
+                .with(2, Operand::Number(bits(w, 11, 7)))
+                .with(3, Operand::Number(bits(w, 20, 16) + 1)),
+        )
     } else {
-        refuse(NO_ROW)
+        Err(Refusal::NoRow)
     }
 }
 
 /// `bfi` and `bfc`, where the field ends no lower than it starts.
+#[tactic(auto, using(word::specs::Field::small))]
 fn bf(w: u32, addr: u64) -> Decoded
     ensures { result ≡ bf_of w addr }
 {
     let op2 = bits(w, 6, 5);
     let msb = bits(w, 20, 16);
     let lsb = bits(w, 11, 7);
-    if op2 == 0b00 {
-        if msb < lsb {
-            refuse(NO_ROW)
-        } else {
-            bf_width(w, addr, lsb, msb - lsb + 1)
-        }
+    if op2 == 0b00 && lsb <= msb {
+        bf_width(w, addr, lsb, msb - lsb + 1)
     } else {
-        refuse(NO_ROW)
+        Err(Refusal::NoRow)
     }
 }
 
@@ -115,18 +82,20 @@ fn bf_width(w: u32, addr: u64, lsb: u32, width: u32) -> Decoded
     ensures { result ≡ bf_width_of w addr lsb width }
 {
     if reg_at(w, RM).is_pc() {
-        at(w, addr, name::BFC, Flow::Next)
-            .with(0, op_at(w, RD))
-            .with(1, count(lsb))
-            .with(2, count(width))
-            .accept()
+        Ok(
+            at(w, addr, name::BFC, Flow::Next)
+                .with(0, op_at(w, RD))
+                .with(1, count(lsb))
+                .with(2, count(width)),
+        )
     } else {
-        at(w, addr, name::BFI, Flow::Next)
-            .with(0, op_at(w, RD))
-            .with(1, op_at(w, RM))
-            .with(2, count(lsb))
-            .with(3, count(width))
-            .accept()
+        Ok(
+            at(w, addr, name::BFI, Flow::Next)
+                .with(0, op_at(w, RD))
+                .with(1, op_at(w, RM))
+                .with(2, count(lsb))
+                .with(3, count(width)),
+        )
     }
 }
 
@@ -136,15 +105,16 @@ fn div(w: u32, addr: u64, name: u16) -> Decoded
 {
     let op2 = bits(w, 7, 5);
     if op2 == 0b000 {
-        three(w, addr, name, Flow::Next, RN, RM, RS)
+        registers(w, addr, name, Flow::Next, [RN, RM, RS])
     } else {
-        refuse(NO_ROW)
+        Err(Refusal::NoRow)
     }
 }
 
 /// `ssat` and `usat` clamp a shifted value into a signed or unsigned field of a chosen width. The saturate-position
 /// field is one more than the encoding holds for the signed form and exactly it for the unsigned one, which is the
 /// architecture's own asymmetry.
+#[tactic(auto, using(word::specs::Field::small))]
 fn ssat(w: u32, addr: u64) -> Decoded
     ensures { result ≡ ssat_of w addr }
 {
@@ -160,15 +130,17 @@ fn usat(w: u32, addr: u64) -> Decoded
 fn sat(w: u32, addr: u64, name: u16, number: u32) -> Decoded
     ensures { result ≡ sat_of w addr name number }
 {
-    at(w, addr, name, Flow::Next)
-        .with(0, op_at(w, RD))
-        .with(1, count(number))
-        .with(2, op_at(w, RM))
-        .with(3, sat_shift(w))
-        .accept()
+    Ok(
+        at(w, addr, name, Flow::Next)
+            .with(0, op_at(w, RD))
+            .with(1, count(number))
+            .with(2, op_at(w, RM))
+            .with(3, sat_shift(w)),
+    )
 }
 
 /// The shift of a saturate's source: `asr` as a data-processing source has it, or `lsl`, which by zero is empty.
+#[tactic(auto, using(word::specs::Field::small))]
 fn sat_shift(w: u32) -> Operand
     ensures { result ≡ sat_shift_of w }
 {
@@ -176,12 +148,10 @@ fn sat_shift(w: u32) -> Operand
     let asr = bit(w, 6);
     if asr == 1 {
         Operand::SaturateShift(Shift::Asr, shift_amount(0b10, shift))
+    } else if shift == 0 {
+        Operand::Empty
     } else {
-        if shift == 0 {
-            Operand::Empty
-        } else {
-            Operand::SaturateShift(Shift::Lsl, shift as u8)
-        }
+        Operand::SaturateShift(Shift::Lsl, shift as u8)
     }
 }
 
@@ -203,14 +173,10 @@ fn rev(w: u32, addr: u64, name: u16) -> Decoded
 {
     let rn = bits(w, 19, 16);
     let rs = bits(w, 11, 8);
-    if rn == 0b1111 {
-        if rs == 0b1111 {
-            two(w, addr, name, Flow::Next, RD, RM)
-        } else {
-            refuse(NO_ROW)
-        }
+    if rn == 0b1111 && rs == 0b1111 {
+        registers(w, addr, name, Flow::Next, [RD, RM])
     } else {
-        refuse(NO_ROW)
+        Err(Refusal::NoRow)
     }
 }
 
@@ -220,14 +186,10 @@ fn extend(w: u32, addr: u64, plain: u16, adding: u16) -> Decoded
 {
     let op2 = bits(w, 7, 5);
     let sbz = bits(w, 9, 8);
-    if op2 == 0b011 {
-        if sbz == 0b00 {
-            extend_by(w, addr, plain, adding)
-        } else {
-            refuse(NO_ROW)
-        }
+    if op2 == 0b011 && sbz == 0b00 {
+        extend_by(w, addr, plain, adding)
     } else {
-        refuse(NO_ROW)
+        Err(Refusal::NoRow)
     }
 }
 
@@ -236,22 +198,25 @@ fn extend_by(w: u32, addr: u64, plain: u16, adding: u16) -> Decoded
     ensures { result ≡ extend_by_of w addr plain adding }
 {
     if reg_at(w, RN).is_pc() {
-        at(w, addr, plain, Flow::Next)
-            .with(0, op_at(w, RD))
-            .with(1, op_at(w, RM))
-            .with(2, rotate(w))
-            .accept()
+        Ok(
+            at(w, addr, plain, Flow::Next)
+                .with(0, op_at(w, RD))
+                .with(1, op_at(w, RM))
+                .with(2, rotate(w)),
+        )
     } else {
-        at(w, addr, adding, Flow::Next)
-            .with(0, op_at(w, RD))
-            .with(1, op_at(w, RN))
-            .with(2, op_at(w, RM))
-            .with(3, rotate(w))
-            .accept()
+        Ok(
+            at(w, addr, adding, Flow::Next)
+                .with(0, op_at(w, RD))
+                .with(1, op_at(w, RN))
+                .with(2, op_at(w, RM))
+                .with(3, rotate(w)),
+        )
     }
 }
 
 /// The four rotate amounts an extend can apply, which print after its source; by zero it is empty.
+#[tactic(auto, using(word::specs::Field::small))]
 fn rotate(w: u32) -> Operand
     ensures { result ≡ rotate_of w }
 {

@@ -4,7 +4,7 @@ use Rattle.word.specs.Field.{field}
 use Rattle.word.specs.Layout.{joined}
 use Rattle.word.specs.Choice.{pick}
 use Rattle.insn.specs.Roots.{name}
-use Rattle.insn.specs.declared.Decoded.{Decoded}
+use Rattle.insn.specs.Answer.{Decoded}
 use Rattle.insn.specs.declared.Flow.{Flow}
 use Rattle.insn.specs.declared.Flow.TheVariants.{Next, IndirectBranch, IndirectCall, Return, Trap}
 use Rattle.insn.specs.declared.Operand.{Operand}
@@ -36,13 +36,17 @@ bx_clz_of w addr =
     among (field w 21 2)
     (1 ⇒ answer w addr (name "bx") (return_flow w) (reg_of w rm ∷ []) ∷ 3 ⇒ answer w addr (name "clz") Next (reg_of w rd ∷ reg_of w rm ∷ []) ∷ [])
 
+-- "01" of "010" and of "011"
+abbrev pub through_of : ℕ → ℕ → ℕ → Flow → Decoded
+through_of w addr name flow = among (field w 21 2) (1 ⇒ answer w addr name flow (reg_of w rm ∷ []) ∷ [])
+
 -- "010, 01: bxj, indirect branch"
 abbrev pub bxj_of : ℕ → ℕ → Decoded
-bxj_of w addr = among (field w 21 2) (1 ⇒ answer w addr (name "bxj") IndirectBranch (reg_of w rm ∷ []) ∷ [])
+bxj_of w addr = through_of w addr (name "bxj") IndirectBranch
 
 -- "011, 01: blx, indirect call"
 abbrev pub blx_of : ℕ → ℕ → Decoded
-blx_of w addr = among (field w 21 2) (1 ⇒ answer w addr (name "blx") IndirectCall (reg_of w rm ∷ []) ∷ [])
+blx_of w addr = through_of w addr (name "blx") IndirectCall
 
 -- "101: qadd qsub qdadd qdsub (Rd, Rm, Rn)"
 abbrev pub saturating_of : ℕ → ℕ → Decoded

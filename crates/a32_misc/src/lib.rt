@@ -2,11 +2,11 @@
 #![tactic(auto)]
 
 ghost use Rattle.std.specs.Prelude.{◌≡◌};
-ghost use Rattle.a32_misc.specs.Misc.{misc_of, status_of, mrs_of, msr_of, source_of, return_flow, bx_clz_of, bxj_of, blx_of, saturating_of, bkpt_of};
+ghost use Rattle.a32_misc.specs.Misc.{misc_of, status_of, mrs_of, msr_of, source_of, return_flow, bx_clz_of, through_of, saturating_of, bkpt_of};
 
-use a32_shared::{RD, RM, RN, at, one, op_at, reg_at, status_mask, three, two};
-use insn::{Decoded, Flow, Operand, Status, name, refuse};
-use word::refusal::NO_ROW;
+use a32_shared::{RD, RM, RN, at, op_at, reg_at, registers, status_mask};
+use insn::{Decoded, Flow, Operand, Status, name};
+use word::refusal::Refusal;
 use word::{bit, bits, bits_then};
 
 /// Table A5-3: `bx`, `clz`, `mrs`, `msr` and the saturating adds.
@@ -17,11 +17,11 @@ pub fn misc(w: u32, addr: u64) -> Decoded
     match op2 {
         0b000 => status(w, addr),
         0b001 => bx_clz(w, addr),
-        0b010 => bxj(w, addr),
-        0b011 => blx(w, addr),
+        0b010 => through(w, addr, name::BXJ, Flow::IndirectBranch),
+        0b011 => through(w, addr, name::BLX, Flow::IndirectCall),
         0b101 => saturating(w, addr),
         0b111 => bkpt(w, addr),
-        _ => refuse(NO_ROW),
+        _ => Err(Refusal::NoRow),
     }
 }
 
@@ -38,17 +38,18 @@ fn status(w: u32, addr: u64) -> Decoded
             msr(w, addr)
         }
     } else {
-        refuse(NO_ROW)
+        Err(Refusal::NoRow)
     }
 }
 
 fn mrs(w: u32, addr: u64) -> Decoded
     ensures { result ≡ mrs_of w addr }
 {
-    at(w, addr, name::MRS, Flow::Next)
-        .with(0, op_at(w, RD))
-        .with(1, status_source(w))
-        .accept()
+    Ok(
+        at(w, addr, name::MRS, Flow::Next)
+            .with(0, op_at(w, RD))
+            .with(1, status_source(w)),
+    )
 }
 
 fn status_source(w: u32) -> Operand
@@ -65,10 +66,11 @@ fn status_source(w: u32) -> Operand
 fn msr(w: u32, addr: u64) -> Decoded
     ensures { result ≡ msr_of w addr }
 {
-    at(w, addr, name::MSR, Flow::Next)
-        .with(0, status_mask(w))
-        .with(1, op_at(w, RM))
-        .accept()
+    Ok(
+        at(w, addr, name::MSR, Flow::Next)
+            .with(0, status_mask(w))
+            .with(1, op_at(w, RM)),
+    )
 }
 
 fn bx_clz(w: u32, addr: u64) -> Decoded
@@ -76,9 +78,9 @@ fn bx_clz(w: u32, addr: u64) -> Decoded
 {
     let op = bits(w, 22, 21);
     match op {
-        0b01 => one(w, addr, name::BX, return_flow(w), RM),
-        0b11 => two(w, addr, name::CLZ, Flow::Next, RD, RM),
-        _ => refuse(NO_ROW),
+        0b01 => registers(w, addr, name::BX, return_flow(w), [RM]),
+        0b11 => registers(w, addr, name::CLZ, Flow::Next, [RD, RM]),
+        _ => Err(Refusal::NoRow),
     }
 }
 
@@ -93,23 +95,14 @@ fn return_flow(w: u32) -> Flow
     }
 }
 
-fn bxj(w: u32, addr: u64) -> Decoded
-    ensures { result ≡ bxj_of w addr }
+/// The other two that go where Rm says, `bxj` and `blx`.
+fn through(w: u32, addr: u64, name: u16, flow: Flow) -> Decoded
+    ensures { result ≡ through_of w addr name flow }
 {
     let op = bits(w, 22, 21);
     match op {
-        0b01 => one(w, addr, name::BXJ, Flow::IndirectBranch, RM),
-        _ => refuse(NO_ROW),
-    }
-}
-
-fn blx(w: u32, addr: u64) -> Decoded
-    ensures { result ≡ blx_of w addr }
-{
-    let op = bits(w, 22, 21);
-    match op {
-        0b01 => one(w, addr, name::BLX, Flow::IndirectCall, RM),
-        _ => refuse(NO_ROW),
+        0b01 => registers(w, addr, name, flow, [RM]),
+        _ => Err(Refusal::NoRow),
     }
 }
 
@@ -117,13 +110,14 @@ fn saturating(w: u32, addr: u64) -> Decoded
     ensures { result ≡ saturating_of w addr }
 {
     let op = bits(w, 22, 21);
-    match op {
-        0b00 => three(w, addr, name::QADD, Flow::Next, RD, RM, RN),
-        0b01 => three(w, addr, name::QSUB, Flow::Next, RD, RM, RN),
-        0b10 => three(w, addr, name::QDADD, Flow::Next, RD, RM, RN),
-        0b11 => three(w, addr, name::QDSUB, Flow::Next, RD, RM, RN),
-        _ => refuse(NO_ROW),
-    }
+    let name = match op {
+        0b00 => name::QADD,
+        0b01 => name::QSUB,
+        0b10 => name::QDADD,
+        0b11 => name::QDSUB,
+        _ => return Err(Refusal::NoRow),
+    };
+    registers(w, addr, name, Flow::Next, [RD, RM, RN])
 }
 
 fn bkpt(w: u32, addr: u64) -> Decoded
@@ -132,10 +126,11 @@ fn bkpt(w: u32, addr: u64) -> Decoded
     let op = bits(w, 22, 21);
     match op {
         0b01 => {
-            at(w, addr, name::BKPT, Flow::Trap)
-                .with(0, Operand::Number(bits_then(w, 19, 8, 3, 0)))
-                .accept()
+            Ok(at(w, addr, name::BKPT, Flow::Trap).with(
+                0,
+                Operand::Number(bits_then(w, 19, 8, 3, 0)),
+            ))
         }
-        _ => refuse(NO_ROW),
+        _ => Err(Refusal::NoRow),
     }
 }

@@ -4,7 +4,7 @@ use Rattle.std.specs.Prelude.{[], ◌∷◌, ℕ, ◌+◌, ◌*◌, eqb}
 use Rattle.word.specs.Field.{field}
 use Rattle.word.specs.Choice.{pick}
 use Rattle.insn.specs.Roots.{name}
-use Rattle.insn.specs.declared.Decoded.{Decoded}
+use Rattle.insn.specs.Answer.{Decoded}
 use Rattle.a32_shared.specs.Row.{among, ◌⇒◌}
 use Rattle.a32_multiply.specs.Multiply.{product_of, adding_of, long_of}
 

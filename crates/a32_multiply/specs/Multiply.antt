@@ -3,7 +3,7 @@ use Rattle.std.specs.Prelude.{[], ◌∷◌, ℕ, eqb}
 use Rattle.word.specs.Field.{field}
 use Rattle.word.specs.Choice.{pick}
 use Rattle.insn.specs.Roots.{name}
-use Rattle.insn.specs.declared.Decoded.{Decoded}
+use Rattle.insn.specs.Answer.{Decoded}
 use Rattle.insn.specs.declared.Flow.TheVariants.{Next}
 use Rattle.a32_shared.specs.Row.{among, ◌⇒◌, by_s, reg_of, answer, no_row}
 

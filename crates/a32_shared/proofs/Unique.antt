@@ -1,6 +1,6 @@
 -- No second result fits a contract. Each line is about the contract itself, as the check reads it from the source.
 -- Assumes nothing.
-use mathlib.Core.Path.{◌∙◌, sym}
+use Rattle.std.proofs.Common.{ℕ, ◌∙◌, sym, Fits, w64}
 use Rattle.word.specs.Only.{Only}
 use Rattle.a32_shared.proofs.reg.Reads as reg
 use Rattle.a32_shared.proofs.reg_at.Reads as Reg-at
@@ -12,10 +12,7 @@ use Rattle.a32_shared.proofs.status_mask.Reads as status_mask
 use Rattle.a32_shared.proofs.pc_write.Reads as pc_write
 use Rattle.a32_shared.proofs.by_s.Reads as by_s
 use Rattle.a32_shared.proofs.at.Reads as at
-use Rattle.a32_shared.proofs.one.Reads as one
-use Rattle.a32_shared.proofs.two.Reads as two
-use Rattle.a32_shared.proofs.three.Reads as three
-use Rattle.a32_shared.proofs.four.Reads as four
+use Rattle.a32_shared.proofs.registers.Reads as registers
 use Rattle.a32_shared.proofs.shift_kind.Reads as shift_kind
 use Rattle.a32_shared.proofs.shift_amount.Reads as shift_amount
 use Rattle.a32_shared.proofs.decode_shift.Reads as decode_shift
@@ -54,17 +51,8 @@ by_s_only κs a r r' s s' p q = p ∙ sym q
 pub at_only : Only at.Post
 at_only κs a r r' s s' p q = p ∙ sym q
 
-pub one_only : Only one.Post
-one_only κs a r r' s s' p q = p ∙ sym q
-
-pub two_only : Only two.Post
-two_only κs a r r' s s' p q = p ∙ sym q
-
-pub three_only : Only three.Post
-three_only κs a r r' s s' p q = p ∙ sym q
-
-pub four_only : Only four.Post
-four_only κs a r r' s s' p q = p ∙ sym q
+pub registers_only : (N : ℕ) (F : Fits w64 N) → Only (registers.Post N F)
+registers_only N F κs a r r' s s' p q = p ∙ sym q
 
 pub shift_kind_only : Only shift_kind.Post
 shift_kind_only κs a r r' s s' p q = p ∙ sym q

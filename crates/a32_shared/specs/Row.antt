@@ -1,8 +1,8 @@
 -- How a row reads: tests on fields of the word, and an answer made of them.
-use Rattle.std.specs.Prelude.{List, [], ◌∷◌, ℕ, eqb}
+use Rattle.std.specs.Prelude.{Bool, true, List, [], ◌∷◌, ℕ, eqb, nat_lt}
 use Rattle.word.specs.Field.{field}
 use Rattle.word.specs.Layout.{joined}
-use Rattle.word.specs.Choice.{pick}
+use Rattle.word.specs.Choice.{pick, both}
 use Rattle.word.specs.Refusal.{NO_ROW}
 use Rattle.insn.specs.Answer.{insn_of, places, accepted, refused}
 use Rattle.insn.specs.declared.Cond.{Cond}
@@ -11,7 +11,7 @@ use Rattle.insn.specs.declared.Flow.{Flow}
 use Rattle.insn.specs.declared.Flow.TheVariants.{Next, IndirectBranch}
 use Rattle.insn.specs.declared.Operand.{Operand}
 use Rattle.insn.specs.declared.Operand.TheVariants.{Register, StatusMask}
-use Rattle.insn.specs.declared.Decoded.{Decoded}
+use Rattle.insn.specs.Answer.{Decoded}
 
 -- "Rd 15:12, Rn 19:16, Rs 11:8, Rm 3:0 unless said": the lowest bit of each
 abbrev pub rd : ℕ
@@ -32,6 +32,11 @@ register_of w lo = record { 0 = field w lo 4 }
 
 abbrev pub reg_of : ℕ → ℕ → Operand
 reg_of w lo = Register (register_of w lo)
+
+-- each number is below a bound
+abbrev pub all_below : ℕ → List ℕ → Bool
+all_below m [] = true
+all_below m (n ∷ ns) = both (nat_lt n m) (all_below m ns)
 
 -- "condition (the word's own 31:28)"
 abbrev pub cond_of : ℕ → Cond

@@ -1,10 +1,10 @@
 //! What the groups of the decoder share, from mod.rs.
 #![tactic(auto)]
 
-ghost use Rattle.std.specs.Prelude.{◌≡◌, ◌<◌, ◌%◌, [], ◌∷◌, pos};
+ghost use Rattle.std.specs.Prelude.{◌≡◌, ◌<◌, ◌≤◌, ◌%◌, T, map, pos};
 ghost use Rattle.word.specs.Signed.{signed};
-ghost use Rattle.insn.specs.Answer.{empty};
-ghost use Rattle.a32_shared.specs.Row.{reg_of, register_of, cond_of, answer, by_s, mask_of, pc_flow};
+ghost use Rattle.insn.specs.Answer.{PLACES, empty};
+ghost use Rattle.a32_shared.specs.Row.{all_below, reg_of, register_of, cond_of, answer, by_s, mask_of, pc_flow};
 ghost use Rattle.a32_shared.specs.Shifts.{shift_of, amount_of, plain_of, rrx_of, shifted_of, shift_by_of};
 
 use insn::{Cond, Decoded, Flow, Insn, Operand, Reg, Shift};
@@ -27,6 +27,7 @@ pub fn reg(n: u32) -> Reg
 }
 
 /// The register that the four bits of `w` from `lo` on name.
+#[tactic(auto, unfolding(word::specs::Field::field))]
 pub fn reg_at(w: u32, lo: u32) -> Reg
     requires { lo < 29 }
     ensures { result ≡ register_of w lo }
@@ -43,6 +44,7 @@ pub fn op_at(w: u32, lo: u32) -> Operand
 }
 
 /// The condition of `w`.
+#[tactic(auto, unfolding(word::specs::Field::field))]
 pub fn cond_of(w: u32) -> Cond
     ensures { result ≡ cond_of w }
 {
@@ -96,51 +98,26 @@ pub fn at(w: u32, addr: u64, name: u16, flow: Flow) -> Insn
     Insn::new(addr, name, cond_of(w), flow)
 }
 
-/// An instruction with the register that `w` names at one place.
-pub fn one(w: u32, addr: u64, name: u16, flow: Flow, a: u32) -> Decoded
-    requires { a < 29 }
-    ensures { result ≡ answer w addr name flow (reg_of w a ∷ []) }
+/// An instruction whose operands are the registers that `w` names from each of `lows` on.
+pub fn registers<const N: usize>(
+    w: u32,
+    addr: u64,
+    name: u16,
+    flow: Flow,
+    lows: [u32; N],
+) -> Decoded
+    requires few { N ≤ PLACES }
+    requires fields { T (all_below 29 lows) }
+    ensures { result ≡ answer w addr name flow (map (reg_of w) lows.entry) }
 {
-    at(w, addr, name, flow).with(0, op_at(w, a)).accept()
+    let mut i = at(w, addr, name, flow);
+    for (n, lo) in lows.iter().enumerate() {
+        i = i.with(n, op_at(w, *lo));
+    }
+    Ok(i)
 }
 
-/// The same at two places.
-pub fn two(w: u32, addr: u64, name: u16, flow: Flow, a: u32, b: u32) -> Decoded
-    requires { (a < 29) × (b < 29) }
-    ensures { result ≡ answer w addr name flow (reg_of w a ∷ reg_of w b ∷ []) }
-{
-    at(w, addr, name, flow)
-        .with(0, op_at(w, a))
-        .with(1, op_at(w, b))
-        .accept()
-}
-
-/// The same at three places.
-pub fn three(w: u32, addr: u64, name: u16, flow: Flow, a: u32, b: u32, c: u32) -> Decoded
-    requires { (a < 29) × (b < 29) × (c < 29) }
-    ensures { result ≡ answer w addr name flow (reg_of w a ∷ reg_of w b ∷ reg_of w c ∷ []) }
-{
-    at(w, addr, name, flow)
-        .with(0, op_at(w, a))
-        .with(1, op_at(w, b))
-        .with(2, op_at(w, c))
-        .accept()
-}
-
-/// The same at four places.
-pub fn four(w: u32, addr: u64, name: u16, flow: Flow, a: u32, b: u32, c: u32, d: u32) -> Decoded
-    requires { (a < 29) × (b < 29) × (c < 29) × (d < 29) }
-    ensures { result ≡ answer w addr name flow (reg_of w a ∷ reg_of w b ∷ reg_of w c ∷ reg_of w d ∷ []) }
-{
-    at(w, addr, name, flow)
-        .with(0, op_at(w, a))
-        .with(1, op_at(w, b))
-        .with(2, op_at(w, c))
-        .with(3, op_at(w, d))
-        .accept()
-}
-
-/// The kind of shift that a two-bit type names.
+/// The kind of shift that a two-bit type names. No `From`, since it is a field of a word and no number at large.
 pub fn shift_kind(ty: u32) -> Shift
     ensures { result ≡ shift_of ty }
 {
@@ -157,13 +134,9 @@ pub fn shift_amount(ty: u32, imm5: u32) -> u8
     requires { imm5 < 32 }
     ensures { result ≡ amount_of ty imm5 }
 {
-    if imm5 != 0 {
-        return imm5 as u8;
-    }
-    match ty {
-        1 => 32,
-        2 => 32,
-        _ => 0,
+    match (ty, imm5) {
+        (1 | 2, 0) => 32,
+        _ => imm5 as u8,
     }
 }
 
@@ -187,33 +160,35 @@ pub fn decode_shift(ty: u32, imm5: u32) -> DecodedShift
 }
 
 /// `lsl #0`, which is no shift at all.
+#[tactic(auto, unfolding(crate::specs::Shifts::plain_of))]
 pub fn is_plain(w: u32) -> bool
     ensures { result ≡ plain_of w }
 {
     let ty = bits(w, 6, 5);
     let imm5 = bits(w, 11, 7);
-    if ty == 0 { imm5 == 0 } else { false }
+    ty == 0 && imm5 == 0
 }
 
 /// `ror #0`, which means `rrx`.
+#[tactic(auto, unfolding(crate::specs::Shifts::rrx_of))]
 pub fn is_rrx(w: u32) -> bool
     ensures { result ≡ rrx_of w }
 {
     let ty = bits(w, 6, 5);
     let imm5 = bits(w, 11, 7);
-    if ty == 3 { imm5 == 0 } else { false }
+    ty == 3 && imm5 == 0
 }
 
 /// A register with an immediate shift, as a data-processing source.
+#[tactic(auto, using(word::specs::Field::small))]
 pub fn shifted(w: u32) -> Operand
     ensures { result ≡ shifted_of w }
 {
     if is_plain(w) {
         return op_at(w, RM);
     }
-    let shift = decode_shift(bits(w, 6, 5), bits(w, 11, 7));
-    let kind = shift.kind;
-    Operand::Shifted(reg_at(w, RM), kind, shift.amount)
+    let DecodedShift { kind, amount } = decode_shift(bits(w, 6, 5), bits(w, 11, 7));
+    Operand::Shifted(reg_at(w, RM), kind, amount)
 }
 
 /// The shift by a register, to follow the register it shifts.

@@ -1,6 +1,6 @@
 -- The machine's count of a number's ones is that of its low digits, where it has no more. Assumes nothing.
 use Rattle.std.proofs.Common.{◌≡◌, ℕ, zero, suc, ◌+◌, ◌/◌, ◌%◌, ◌^◌, ◌<◌, ap, ◌∙◌, arith}
-use lib.Arith.{lt-one}
+use Rattle.std.proofs.Math.Arith.{lt-one}
 use lib.Count.{ones, ones_in, ones_step}
 
 pub ones_in_lem : (d n : ℕ) → n < 2 ^ d → ones n ≡ ones_in d n

@@ -4,7 +4,7 @@ use Rattle.word.specs.Field.{field}
 use Rattle.word.specs.Choice.{pick, both}
 use Rattle.insn.specs.Memory.{base_disp}
 use Rattle.insn.specs.Roots.{name}
-use Rattle.insn.specs.declared.Decoded.{Decoded}
+use Rattle.insn.specs.Answer.{Decoded}
 use Rattle.insn.specs.declared.Flow.TheVariants.{Next, Call}
 use Rattle.insn.specs.declared.Operand.{Operand}
 use Rattle.insn.specs.declared.Operand.TheVariants.{Memory, Option}

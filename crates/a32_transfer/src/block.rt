@@ -1,12 +1,12 @@
 //! Load and store multiple.
 ghost use Rattle.std.specs.Prelude.{◌≡◌};
-ghost use Rattle.a32_transfer.specs.Block.{block_of, listed_of, stack_of, stack_form_of, only_list_of, multiple_of, load_name, store_name, name_of};
+ghost use Rattle.a32_transfer.specs.Block.{block_of, listed_of, stack_of, stack_form_of, only_list_of, multiple_of, name_of};
 ghost use Rattle.a32_transfer.specs.Block.{base_of};
 ghost use Rattle.a32_transfer.specs.Block.{list_of, flow_of};
 
 use a32_shared::{RN, at, op_at, reg_at};
-use insn::{Decoded, Flow, Operand, name, refuse};
-use word::refusal::NO_ROW;
+use insn::{Decoded, Flow, Operand, name};
+use word::refusal::Refusal;
 use word::{bit, bits};
 
 /// Table A5-21: load and store multiple, and the `push` and `pop` spellings LLVM prefers for the two that use the stack
@@ -17,14 +17,10 @@ pub fn block(w: u32, addr: u64) -> Decoded
     // set in the exception-return forms
     let user = bit(w, 22);
     let list = bits(w, 15, 0);
-    if user == 0 {
-        if list == 0 {
-            refuse(NO_ROW)
-        } else {
-            listed(w, addr)
-        }
+    if user == 0 && list != 0 {
+        listed(w, addr)
     } else {
-        refuse(NO_ROW)
+        Err(Refusal::NoRow)
     }
 }
 
@@ -39,87 +35,57 @@ fn listed(w: u32, addr: u64) -> Decoded
 }
 
 /// The stack pointer, written back, with two or more registers.
+#[tactic(auto, unfolding(crate::specs::Block::stack_of), using(crate::proofs::Ones::ones_in_lem, word::specs::Field::small))]
 fn is_stack(w: u32) -> bool
     ensures { result ≡ stack_of w }
 {
     let rn = reg_at(w, RN);
     let wb = bit(w, 21);
     let list = bits(w, 15, 0);
-    if rn.is_sp() {
-        if wb == 1 {
-            2 <= u32::count_ones(list)
-        } else {
-            false
-        }
-    } else {
-        false
-    }
+    rn.is_sp() && wb == 1 && 2 <= list.count_ones()
 }
 
+#[tactic(auto, using(word::specs::Field::small))]
 fn stack(w: u32, addr: u64) -> Decoded
     ensures { result ≡ stack_form_of w addr }
 {
     let kind = bits(w, 24, 23);
     let l = bit(w, 20);
-    if l == 0 {
-        if kind == 0b10 {
-            only_list(w, addr, name::PUSH)
-        } else {
-            multiple(w, addr)
-        }
-    } else if kind == 0b01 {
-        only_list(w, addr, name::POP)
-    } else {
-        multiple(w, addr)
+    match (l, kind) {
+        (0, 0b10) => only_list(w, addr, name::PUSH),
+        (1, 0b01) => only_list(w, addr, name::POP),
+        _ => multiple(w, addr),
     }
 }
 
 fn only_list(w: u32, addr: u64, name: u16) -> Decoded
     ensures { result ≡ only_list_of w addr name }
 {
-    at(w, addr, name, flow(w)).with(0, core_list(w)).accept()
+    Ok(at(w, addr, name, flow(w)).with(0, core_list(w)))
 }
 
 fn multiple(w: u32, addr: u64) -> Decoded
     ensures { result ≡ multiple_of w addr }
 {
-    at(w, addr, block_name(w), flow(w))
-        .with(0, base(w))
-        .with(1, core_list(w))
-        .accept()
+    Ok(
+        at(w, addr, block_name(w), flow(w))
+            .with(0, base(w))
+            .with(1, core_list(w)),
+    )
 }
 
 fn block_name(w: u32) -> u16
     ensures { result ≡ name_of w }
 {
-    let kind = bits(w, 24, 23);
-    let l = bit(w, 20);
-    if l == 0 {
-        store_name(kind)
-    } else {
-        load_name(kind)
-    }
-}
-
-fn load_name(kind: u32) -> u16
-    ensures { result ≡ load_name kind }
-{
-    match kind {
-        0b00 => name::LDMDA,
-        0b01 => name::LDM,
-        0b10 => name::LDMDB,
+    match (bit(w, 20), bits(w, 24, 23)) {
+        (0, 0b00) => name::STMDA,
+        (0, 0b01) => name::STM,
+        (0, 0b10) => name::STMDB,
+        (0, _) => name::STMIB,
+        (_, 0b00) => name::LDMDA,
+        (_, 0b01) => name::LDM,
+        (_, 0b10) => name::LDMDB,
         _ => name::LDMIB,
-    }
-}
-
-fn store_name(kind: u32) -> u16
-    ensures { result ≡ store_name kind }
-{
-    match kind {
-        0b00 => name::STMDA,
-        0b01 => name::STM,
-        0b10 => name::STMDB,
-        _ => name::STMIB,
     }
 }
 
@@ -135,6 +101,7 @@ fn base(w: u32) -> Operand
     }
 }
 
+#[tactic(auto, using(word::specs::Field::small))]
 fn core_list(w: u32) -> Operand
     ensures { result ≡ list_of w }
 {
@@ -147,13 +114,9 @@ fn flow(w: u32) -> Flow
     let l = bit(w, 20);
     let pc = bit(w, 15);
     let rn = reg_at(w, RN);
-    if l == 0 {
-        return Flow::Next;
-    }
-    if pc == 0 {
-        return Flow::Next;
-    }
-    if rn.is_sp() {
+    if l == 0 || pc == 0 {
+        Flow::Next
+    } else if rn.is_sp() {
         Flow::Return
     } else {
         Flow::IndirectBranch

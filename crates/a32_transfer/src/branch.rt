@@ -26,16 +26,15 @@ pub fn branch(w: u32, addr: u64) -> Decoded
 pub fn going(w: u32, addr: u64, name: u16, flow: Flow, to: u32) -> Decoded
     ensures { result ≡ going_to w addr name flow to }
 {
-    at(w, addr, name, flow)
-        .with(0, Operand::Address(to))
-        .accept()
+    Ok(at(w, addr, name, flow).with(0, Operand::Address(to)))
 }
 
 /// Where the offset of `w` leads from `addr`, and `extra` bytes on.
+#[tactic(auto, unfolding(word::specs::Signed::target_of, crate::specs::Branch::target_from), using(word::specs::Field::small))]
 pub fn branch_target(w: u32, addr: u64, extra: u32) -> u32
     requires { extra < 4 }
     ensures { result ≡ target_from w addr extra }
 {
     let off = sext(4 * bits(w, 23, 0), 26);
-    target(addr, std::num::wrapping_add_u32(8 + extra, off))
+    target(addr, (8 + extra).wrapping_add(off))
 }

@@ -7,8 +7,8 @@ ghost use Rattle.a32_transfer.specs.Unconditional.{preload_name};
 use crate::branch::{branch_target, going};
 use a32_ldst::mem::disp;
 use a32_shared::{RN, at, reg_at};
-use insn::{Decoded, Flow, Mem, Operand, name, refuse};
-use word::refusal::NO_ROW;
+use insn::{Decoded, Flow, Mem, Operand, name};
+use word::refusal::Refusal;
 use word::{bit, bits};
 
 /// Condition 15 is a second instruction space: the barriers, `pld`, and the `blx` that changes instruction set.
@@ -25,10 +25,11 @@ pub fn unconditional(w: u32, addr: u64) -> Decoded
     if is_preload(w) {
         preload(w, addr)
     } else {
-        refuse(NO_ROW)
+        Err(Refusal::NoRow)
     }
 }
 
+#[tactic(auto, using(word::specs::Field::small))]
 fn blx(w: u32, addr: u64) -> Decoded
     ensures { result ≡ blx_of w addr }
 {
@@ -38,6 +39,7 @@ fn blx(w: u32, addr: u64) -> Decoded
 }
 
 /// The barriers and `clrex`.
+#[tactic(auto, unfolding(crate::specs::Unconditional::barrier_slot))]
 pub fn is_barrier(w: u32) -> bool
     ensures { result ≡ barrier_slot w }
 {
@@ -49,44 +51,38 @@ fn barrier(w: u32, addr: u64) -> Decoded
 {
     let op = bits(w, 7, 4);
     match op {
-        0b0001 => at(w, addr, name::CLREX, Flow::Next).accept(),
+        0b0001 => Ok(at(w, addr, name::CLREX, Flow::Next)),
         0b0100 => optioned(w, addr, name::DSB),
         0b0101 => optioned(w, addr, name::DMB),
         0b0110 => optioned(w, addr, name::ISB),
-        _ => refuse(NO_ROW),
+        _ => Err(Refusal::NoRow),
     }
 }
 
 /// A barrier of an option.
+#[tactic(auto, using(word::specs::Field::small))]
 fn optioned(w: u32, addr: u64, name: u16) -> Decoded
     ensures { result ≡ optioned_of w addr name }
 {
-    at(w, addr, name, Flow::Next)
-        .with(0, Operand::Option(bits(w, 3, 0) as u8))
-        .accept()
+    Ok(at(w, addr, name, Flow::Next).with(0, Operand::Option(bits(w, 3, 0) as u8)))
 }
 
 /// The preloads of an offset.
+#[tactic(auto, unfolding(crate::specs::Unconditional::preload_slot))]
 pub fn is_preload(w: u32) -> bool
     ensures { result ≡ preload_slot w }
 {
     let op = bits(w, 27, 24);
     let rd = bits(w, 15, 12);
     let kind = bits(w, 21, 20);
-    if op == 0b0101 {
-        if rd == 0b1111 { kind == 0b01 } else { false }
-    } else {
-        false
-    }
+    op == 0b0101 && rd == 0b1111 && kind == 0b01
 }
 
 /// `pld` and `pldw`, whose only operand is the address they touch.
 fn preload(w: u32, addr: u64) -> Decoded
     ensures { result ≡ preload_of w addr }
 {
-    at(w, addr, preload_name(w), Flow::Next)
-        .with(0, memory(w))
-        .accept()
+    Ok(at(w, addr, preload_name(w), Flow::Next).with(0, memory(w)))
 }
 
 fn preload_name(w: u32) -> u16

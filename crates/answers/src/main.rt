@@ -2,7 +2,7 @@
 //! whole answer, and the line of the listing.
 #![tactic(auto)]
 
-ghost use Rattle.std.specs.Prelude.{◌+◌, ◌≤◌, length};
+ghost use Rattle.std.specs.Prelude.{◌≡◌, length};
 
 use a32_digest::digest;
 use line::line;
@@ -25,26 +25,24 @@ fn main(rt: HostRuntime) -> io::Result<()> {
 }
 
 fn print_lines<W: Write>(out: &mut W, records: &[u8]) -> io::Result<()> {
-    let mut at = 0;
-    while RECORD <= records.len() - at {
-        print_line(out, records, at)?;
-        at += RECORD;
+    for record in records.chunks_exact(RECORD) {
+        print_line(out, record)?;
     }
     Ok(())
 }
 
-fn print_line<W: Write>(out: &mut W, records: &[u8], at: usize) -> io::Result<()>
-    requires { at + 12 ≤ length records.now }
+fn print_line<W: Write>(out: &mut W, record: &[u8]) -> io::Result<()>
+    requires { length record.now ≡ 12 }
 {
-    let low = word_at(records, at) as u64;
-    let high = word_at(records, at + 4) as u64;
-    print_answer(out, low + 0x1_0000_0000 * high, word_at(records, at + 8))
+    // Two words: `word_at` reads four bytes.
+    let low = word_at(record, 0) as u64;
+    let high = word_at(record, 4) as u64;
+    print_answer(out, low + 0x1_0000_0000 * high, word_at(record, 8))
 }
 
 fn print_answer<W: Write>(out: &mut W, addr: u64, w: u32) -> io::Result<()> {
     let mut text = [0u8; 96];
-    let written = line(addr, w, &mut text);
-    let len = written.len;
+    let len = line(addr, w, &mut text).unwrap_or(0);
     let sum = digest(1, w, 1, addr);
     write!(out, "{addr:016x} {sum} ")?;
     out.write_all(&text[..len])

@@ -1,5 +1,7 @@
 -- A row encodes to the home word of every word that has it for its answer's row, and is refused exactly if no word has. Assumes nothing.
 use mathlib.Core.Path.{◌≡◌, sym, ap, ◌∙◌, subst}
+use Rattle.insn.specs.Answer.{insn_in}
+use Rattle.word.specs.Refusal.{refused_with}
 use mathlib.Core.Bool.{true}
 use mathlib.Core.List.{List, [], append-nil}
 use mathlib.Core.Logic.{◌↔◌}
@@ -25,10 +27,10 @@ use Rattle.brassdozen.specs.Given.{whole, Answers, encoded_of}
 use Rattle.brassdozen.proofs.Fit.{fits}
 
 -- the comparison passes exactly if the row is that of the answer
-compares : (w : ℕ) (row : List ℕ) → (decode_of w (get_or row 0 0)).refusal ≡ 0
-    → (holds row 0 (row_of (decode_of w (get_or row 0 0)).insn) ≡ true) ↔ (row_of (decode_of w (get_or row 0 0)).insn ≡ whole row)
+compares : (w : ℕ) (row : List ℕ) → refused_with (decode_of w (get_or row 0 0)) ≡ 0
+    → (holds row 0 (row_of (insn_in (decode_of w (get_or row 0 0)))) ≡ true) ↔ (row_of (insn_in (decode_of w (get_or row 0 0))) ≡ whole row)
 compares w row ok =
-    let i = (decode_of w (get_or row 0 0)).insn in
+    let i = (insn_in (decode_of w (get_or row 0 0))) in
     subst (λ (n : ℕ). (holds row 0 (row_of i) ≡ true) ↔ (row_of i ≡ numbers_of row 0 n))
     (row_size i (fits w (get_or row 0 0) ok).places)
     (holds_exactly row 0 (row_of i))
@@ -43,9 +45,9 @@ module _ (c : Filler) where
   finds w row bound has =
       simp (at_home, home_decodes c w (get_or row 0 0) bound, has.accepted, (compares w row has.accepted).1 has.equal)
     where
-      value : insn_from row ≡ (decode_of w (get_or row 0 0)).insn
+      value : insn_from row ≡ insn_in (decode_of w (get_or row 0 0))
       value =
-          let i = (decode_of w (get_or row 0 0)).insn in
+          let i = (insn_in (decode_of w (get_or row 0 0))) in
           ap insn_from (sym has.equal ∙ sym (append-nil (row_of i))) ∙ row_back i [] (fits w (get_or row 0 0) has.accepted)
 
       at_home : candidate c (insn_from row) ≡ home_of c w
@@ -64,11 +66,11 @@ module _ (c : Filler) where
 
       refuses : None row → encoded_of c row ≡ packed 4 0
       refuses never =
-          by_test (both (eqb (decode_of w (get_or row 0 0)).refusal 0) (holds row 0 (row_of (decode_of w (get_or row 0 0)).insn)))
+          by_test (both (eqb (refused_with (decode_of w (get_or row 0 0))) 0) (holds row 0 (row_of (insn_in (decode_of w (get_or row 0 0))))))
           (λ e. absurd (never w (candidate_small c (insn_from row)) (answers (parts _ _ e))))
           (λ e. simp e)
         where
-          answers : (eqb (decode_of w (get_or row 0 0)).refusal 0 ≡ true) × (holds row 0 (row_of (decode_of w (get_or row 0 0)).insn) ≡ true) → Answers w row
+          answers : (eqb (refused_with (decode_of w (get_or row 0 0))) 0 ≡ true) × (holds row 0 (row_of (insn_in (decode_of w (get_or row 0 0)))) ≡ true) → Answers w row
           answers passed =
-              let ok = eqb-true (decode_of w (get_or row 0 0)).refusal 0 passed.0 in
+              let ok = eqb-true (refused_with (decode_of w (get_or row 0 0))) 0 passed.0 in
               record { accepted = ok; equal = (compares w row ok).0 passed.1 }

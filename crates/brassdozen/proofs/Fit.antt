@@ -1,17 +1,18 @@
 -- The numbers of an accepted answer fit the types that a row's numbers are read as. Assumes nothing.
 use mathlib.Core.Path.{◌≡◌, sym, ap, ◌∙◌, subst}
+use Rattle.std.specs.Prelude.{Some, None}
+use Rattle.word.specs.Refusal.{refused_with}
 use mathlib.Core.Bool.{Bool, true, false}
 use mathlib.Core.List.{List, [], ◌∷◌}
 use Prim.Native.Nat.{ℕ, zero, suc, ◌^◌, ◌<◌}
 use native.Mathlib.Omega.{arith}
 use lib.IntN.{ℤ, pos, negsuc, nat_abs}
 use lib.ListN.{length, get_or}
-use Rattle.insn.specs.Answer.{place_at}
+use Rattle.insn.specs.Answer.{place_at, insn_in}
+use Rattle.insn.specs.Memory.{Index}
 use Rattle.insn.specs.Numbers.{flow_target}
 use Rattle.insn.specs.declared.Flow.{Flow}
 use Rattle.insn.specs.declared.Flow.TheVariants.{Next, Branch, CondBranch, IndirectBranch, Call, IndirectCall, Return, Trap}
-use Rattle.insn.specs.declared.Index.{Index}
-use Rattle.insn.specs.declared.Index.TheVariants.{Absent, Left}
 use Rattle.insn.specs.declared.Insn.{Insn}
 use Rattle.insn.specs.declared.Operand.{Operand}
 use Rattle.insn.specs.declared.Operand.TheVariants.{Empty, Register, Shifted, ShiftBy, SaturateShift, Rotate, Count, Number, StatusMask}
@@ -30,8 +31,8 @@ signed_narrow (pos n) h = omega arith
 signed_narrow (negsuc n) h = omega arith
 
 index_narrow : (x : Index) → Indexed x → R.Indexed x
-index_narrow Absent h = tt
-index_narrow (Left r n) h = (omega (arith, h.0), omega (arith, h.1))
+index_narrow None h = tt
+index_narrow (Some (r, n)) h = (omega (arith, h.0), omega (arith, h.1))
 
 narrow : (last : Bool) (name : ℕ) (o : Operand) → Sound last name o → Narrow o
 narrow last name Empty h = tt
@@ -115,5 +116,5 @@ answer_fits i f = record {
       (operands_narrow i.name f.operands f.sound n);
 }
 
-pub fits : (w addr : ℕ) → (decode_of w addr).refusal ≡ 0 → Fits (decode_of w addr).insn
-fits w addr ok = answer_fits (decode_of w addr).insn ((all_good w addr).formed ok)
+pub fits : (w addr : ℕ) → refused_with (decode_of w addr) ≡ 0 → Fits (insn_in (decode_of w addr))
+fits w addr ok = answer_fits (insn_in (decode_of w addr)) ((all_good w addr).formed ok)

@@ -8,14 +8,15 @@ use native.Mathlib.Omega.{arith}
 use lib.Dec.{leb}
 use lib.ListN.{length}
 use Rattle.word.specs.Choice.{pick}
-use Rattle.insn.specs.declared.Decoded.{Decoded}
+use Rattle.insn.specs.Answer.{Decoded}
 use Rattle.insn.specs.declared.Insn.{Insn}
 use Rattle.a32.specs.Decode.{decode_of}
 use Rattle.encode_home.specs.declared.Filler.{Filler}
 use Rattle.encode_words.specs.Candidate.{candidate}
 use Rattle.insn_value.specs.Value.{insn_from}
-use Rattle.text.specs.Fits.{answer_of}
-use Rattle.text.specs.declared.Written.{Written}
+use Rattle.std.specs.Prelude.{Ok}
+use Rattle.word.specs.Refusal.{refusing}
+use Rattle.text.specs.Fits.{Written, answer_of, len_in}
 use Rattle.brassdozen.specs.Given.{row_refusal, row_last, checked, encoded_of}
 
 -- what decoding gives and leaves, from the answer as the specification names it
@@ -33,10 +34,10 @@ encoded c row {i} {w} at_i at-w at-d is =
     ∙ ap (λ (j : Insn). checked row (candidate c j) (decode_of (candidate c j) j.addr)) at_i
 
 -- no more bytes are written than the text has
-pub no_longer : (text out : List ℕ) {w : Written} → w ≡ answer_of text out → w.len ≤ length text
+pub no_longer : (text out : List ℕ) {w : Written} → w ≡ answer_of text out → len_in w ≤ length text
 unfolding answer_of
-no_longer text out {w} e = subst (λ (x : Written). x.len ≤ length text) (sym e) (of (leb (length text) (length out)))
+no_longer text out {w} e = subst (λ (x : Written). len_in x ≤ length text) (sym e) (of (leb (length text) (length out)))
   where
-    of : (b : Bool) → (pick {A = Written} b (record { refusal = 0; len = length text }) (record { refusal = 10; len = 0 })).len ≤ length text
+    of : (b : Bool) → len_in (pick {A = Written} b (Ok (length text)) (refusing 10)) ≤ length text
     of true = le_refl (length text)
     of false = omega arith

@@ -1,5 +1,6 @@
 -- What is given and left of a place of a section. Assumes nothing.
 use mathlib.Core.Path.{◌≡◌, ap}
+use Rattle.word.specs.Refusal.{refused_with}
 use mathlib.Core.List.{List, [], ◌∷◌}
 use Prim.Native.Nat.{ℕ, ◌≤◌}
 use native.Mathlib.Omega.{arith}
@@ -10,7 +11,7 @@ use Rattle.text.proofs.Writing.{nothing, three_put}
 use Rattle.section.specs.Section.{refusal_of, here_of}
 use Rattle.section.specs.declared.Here.{Here}
 use Rattle.section.specs.declared.Opened.{Opened}
-use Rattle.section.proofs.Accepted.{refuses}
+use Rattle.section.proofs.Accepted.{holds_none}
 use Rattle.section.proofs.Places.{how_many_lem, at_end}
 use Rattle.brassdozen.specs.Given.{here_row, here_refusal, place_refusal, place_last}
 
@@ -19,7 +20,7 @@ pub none_written : (out : List ℕ) → out ≡ last_of [] out
 none_written out = unfold last_of in simp (le-leb 0 (length out) (omega arith)) (nothing out 0)
 
 -- three numbers that fit
-pub three_fit : (out : List ℕ) (a b c : ℕ) → 3 ≤ length out → (answer_of (a ∷ b ∷ c ∷ []) out).refusal ≡ 0
+pub three_fit : (out : List ℕ) (a b c : ℕ) → 3 ≤ length out → refused_with (answer_of (a ∷ b ∷ c ∷ []) out) ≡ 0
 three_fit out a b c h = unfold answer_of in simp (le-leb 3 (length out) h)
 
 pub three_written : (out : List ℕ) (a b c : ℕ) → 3 ≤ length out → set (set (set out 0 a) 1 b) 2 c ≡ last_of (a ∷ b ∷ c ∷ []) out
@@ -35,5 +36,5 @@ module _ (s : List ℕ) (place : ℕ) (out : List ℕ) where
   -- and of another its number, since it has no place
   pub given_none : (refusal_of s ≡ 0 → ⊥) → (refusal_of s ≡ place_refusal s place out) × (out ≡ place_last s place out)
   given_none bad =
-      let none = at_end s {place = place} (omega (arith, how_many_lem s, ap (λ (o : Opened). o.count) (refuses s bad))) in
+      let none = at_end s {place = place} (omega (arith, how_many_lem s, ap (λ (o : Opened). o.count) (holds_none s bad))) in
       (simp (ne_eqb (refusal_of s) 0 bad), rw none (none_written out))

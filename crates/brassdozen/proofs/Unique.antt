@@ -3,10 +3,12 @@
 use mathlib.Core.Path.{◌≡◌, ◌∙◌, sym, ap}
 use Prim.Native.Nat.{◌+◌, ◌*◌, ◌^◌}
 use Rattle.word.specs.Only.{Only}
-use Rattle.word_packed.specs.Packed.{packed}
-use Rattle.callers.specs.declared.Indexed.{Indexed}
+use Rattle.std.specs.Prelude.{Result}
+use Rattle.word.specs.declared.refusal.Refusal.{Refusal}
+use Rattle.word_packed.specs.Packed.{packed_as, packed_answer}
 use Rattle.home_form.specs.declared.Changed.{Changed}
-use Rattle.rule_verdict.specs.declared.Judged.{Judged}
+use Rattle.rule_verdict.specs.Verdicts as V
+use Rattle.rule_verdict.specs.declared.Verdict.{Verdict}
 use Rattle.rule_verdict.proofs.Unique.{rules_only}
 use Rattle.walk.specs.declared.Walked.{Walked}
 use Rattle.walk.proofs.Unique.{walks_only}
@@ -76,7 +78,7 @@ pub walk_only : (κs : _) (a : _) (r r' : _) (s s' : _) → walk.Post κs a r s 
     → (r ≡ r') × (s.1.1.0.now ≡ s'.1.1.0.now)
 walk_only κs a r r' s s' p q =
     let same = walks_only p.walks q.walks in
-    (p.given ∙ ap (λ (w : Walked). packed w.refusal (2 ^ 16 * w.words + w.records)) same.0 ∙ sym q.given, same.1)
+    (p.given ∙ ap (λ (r : Result Walked Refusal). packed_as (λ w. 2 ^ 16 * w.words + w.records) r) same.0 ∙ sym q.given, same.1)
 
 pub tally_only : (κs : _) (a : _) (r r' : _) (s s' : _) → tally.Post κs a r s → tally.Post κs a r' s' → (r ≡ r') × (s.1.0.now ≡ s'.1.0.now)
 tally_only κs a r r' s s' p q = (p.0 ∙ sym q.0, p.1 ∙ sym q.1)
@@ -92,13 +94,13 @@ pub index_only : (κs : _) (a : _) (r r' : _) (s s' : _) → index.Post κs a r 
     → (r ≡ r') × (s.1.0.now ≡ s'.1.0.now)
 index_only κs a r r' s s' p q =
     let same = p.builds.answer ∙ sym q.builds.answer in
-    (p.given ∙ ap (λ (i : Indexed). packed i.refusal i.count) same ∙ sym q.given, p.builds.left ∙ sym q.builds.left)
+    (p.given ∙ ap packed_answer same ∙ sym q.given, p.builds.left ∙ sym q.builds.left)
 
 pub replace_only : (κs : _) (a : _) (r r' : _) (s s' : _) → replace.Post κs a r s → replace.Post κs a r' s'
     → (r ≡ r') × (s.0.now ≡ s'.0.now) × (s.1.1.1.0.now ≡ s'.1.1.1.0.now)
 replace_only κs a r r' s s' p q =
     let same = p.replaces.answer ∙ sym q.replaces.answer in (
-      p.given ∙ ap (λ (i : Indexed). packed i.refusal i.count) same ∙ sym q.given,
+      p.given ∙ ap packed_answer same ∙ sym q.given,
       p.replaces.words ∙ sym q.replaces.words,
       p.replaces.left ∙ sym q.replaces.left,
     )
@@ -111,7 +113,7 @@ pub home_form_only : (κs : _) (a : _) (r r' : _) (s s' : _) → home_form.Post 
     → (r ≡ r') × (s.0.now ≡ s'.0.now) × (s.1.0.now ≡ s'.1.0.now)
 home_form_only κs a r r' s s' p q =
     let same = p.puts.answer ∙ sym q.puts.answer in (
-      p.given ∙ ap (λ (c : Changed). packed c.refusal (2 ^ 16 * c.unindexed + c.changes)) same ∙ sym q.given,
+      p.given ∙ ap (λ (r : Result Changed Refusal). packed_as (λ c. 2 ^ 16 * c.unindexed + c.changes) r) same ∙ sym q.given,
       p.puts.bytes ∙ sym q.puts.bytes,
       p.puts.left ∙ sym q.puts.left,
     )
@@ -119,4 +121,4 @@ home_form_only κs a r r' s s' p q =
 -- of the shortest ways, and of what is left in the room to work in, the contract takes any
 pub judge_only : Only judge.Post
 judge_only κs a r r' s s' p q =
-    p.given ∙ ap (λ (j : Judged). packed j.refusal (2 ^ 16 * j.verdict + j.number)) (rules_only p.rules q.rules) ∙ sym q.given
+    p.given ∙ ap (λ (r : Result Verdict Refusal). packed_as (λ v. 2 ^ 16 * V.number v + V.value v) r) (rules_only p.rules q.rules) ∙ sym q.given

@@ -2,9 +2,11 @@
 //! `include/brassdozen.h` declares each function to C.
 #![tactic(auto)]
 
-ghost use Rattle.std.specs.Prelude.{◌≡◌, [], ◌∷◌};
+ghost use Rattle.std.specs.Prelude.{◌≡◌, ◌<◌, ◌^◌};
+ghost use Rattle.word.specs.Refusal.{refused_with};
+ghost use Rattle.word_packed.specs.Packed.{packed_answer};
 ghost use Rattle.a32.specs.Decode.{decode_of, decode_bytes_of};
-ghost use Rattle.text.specs.Fits.{answer_of, last_of};
+ghost use Rattle.text.specs.Fits.{len_in, answer_of, last_of};
 ghost use Rattle.line_spelling.specs.Line.{line_of};
 ghost use Rattle.section_convert.specs.Convert.{left_of};
 ghost use Rattle.listing_text.specs.Listing.{listing_of};
@@ -30,13 +32,15 @@ use line::line;
 use listing_text::listing;
 use patch::{Found, find};
 use patched::patched;
+use rule_places::Coded;
 use rule_verdict::judge;
-use section::{Here, open, read};
+use section::{Here, Section};
 use section_convert::{Target, convert};
 use tally::add_to;
+use text::put;
 use walk::walk;
-use word::refusal::{NO_PLACE, NO_ROOM, NO_WORD};
-use word_packed::pack;
+use word::refusal::{Refusal, number_of};
+use word_packed::{pack, pack_answer};
 
 /// The library's version: 10,000 for each major one, 100 for each minor one, and one for each patch.
 pub fn brassdozen_version() -> u32
@@ -65,11 +69,9 @@ fn put_answer(row: &mut [u64], d: Decoded) -> u8
     ensures value { result ≡ row_refusal d row.old }
     ensures row_after { row.new ≡ row_last d row.old }
 {
-    if d.refusal == 0 {
-        let written = put_row(row, d.insn);
-        written.refusal
-    } else {
-        d.refusal
+    match d {
+        Ok(insn) => number_of(&put_row(row, insn)),
+        Err(refusal) => refusal.number(),
     }
 }
 
@@ -92,15 +94,9 @@ fn encode_row(row: &[u64], filler: Filler) -> u64
 {
     let i = insn_from(row);
     let w = filled_word(i, filler);
-    let answer = decode(w, i.addr);
-    if answer.refusal == 0 {
-        if is_row(row, answer.insn) {
-            pack(0, w)
-        } else {
-            pack(NO_WORD, 0)
-        }
-    } else {
-        pack(NO_WORD, 0)
+    match decode(w, i.addr) {
+        Ok(answer) if is_row(row, answer) => pack(0, w),
+        _ => pack(Refusal::NoWord.number(), 0),
     }
 }
 
@@ -121,8 +117,19 @@ pub fn brassdozen_home_zeros(word: u32) -> u64
 fn home_word(word: u32, filler: Filler) -> u64
     ensures { result ≡ homed_of filler word }
 {
-    let h = home_with(word, filler);
-    pack(h.refusal, h.word)
+    pack_answer(home_with(word, filler))
+}
+
+/// A length of at most 32 bits, with a refusal's number above it.
+/// It stands beside `pack_answer`, since a length is cast; what is packed of two numbers is in each function below.
+fn pack_len(written: Result<usize, Refusal>) -> u64
+    requires { len_in written < 2 ^ 32 }
+    ensures { result ≡ packed_answer written }
+{
+    match written {
+        Ok(len) => pack(0, len as u32),
+        Err(refusal) => pack(refusal.number(), 0),
+    }
 }
 
 /// Writes the line of `word` at `addr`, and gives its length, with a refusal's number above it.
@@ -130,8 +137,7 @@ pub fn brassdozen_line(addr: u64, word: u32, out: &mut [u8]) -> u64
     ensures value { result ≡ written_of (line_of addr word) out.old }
     ensures out_after { out.new ≡ last_of (line_of addr word) out.old }
 {
-    let w = line(addr, word, out);
-    pack(w.refusal, w.len as u32)
+    pack_len(line(addr, word, out))
 }
 
 /// Writes the listing of `section`, and gives its length, with a refusal's number above it.
@@ -139,8 +145,7 @@ pub fn brassdozen_listing(section: &[u8], out: &mut [u8]) -> u64
     ensures value { result ≡ written_of (listing_of section.now) out.old }
     ensures out_after { out.new ≡ last_of (listing_of section.now) out.old }
 {
-    let w = listing(section, out);
-    pack(w.refusal, w.len as u32)
+    pack_len(listing(section, out))
 }
 
 /// Writes the address of what stands at a place of `section`, the word, and 1 if it is data and 0 if not, and gives 0; or gives a refusal's number.
@@ -148,38 +153,33 @@ pub fn brassdozen_place(section: &[u8], place: u32, out: &mut [u32]) -> u8
     ensures value { result ≡ place_refusal section.now place out.old }
     ensures out_after { out.new ≡ place_last section.now place out.old }
 {
-    let opened = open(section);
-    if opened.refusal == 0 {
-        let step = read(section, opened, place as usize);
-        let here = step.here;
-        put_here(out, here)
-    } else {
-        opened.refusal
+    match Section::open(section) {
+        Ok(section) => number_of(&put_here(out, section.at(place as usize))),
+        Err(refusal) => refusal.number(),
     }
 }
 
-fn put_here(out: &mut [u32], here: Here) -> u8
-    ensures value { result ≡ here_refusal here out.old }
+fn put_here(out: &mut [u32], here: Here) -> Result<(), Refusal>
+    ensures value { refused_with result ≡ here_refusal here out.old }
     ensures out_after { out.new ≡ last_of (here_row here) out.old }
 {
     match here {
-        Here::Word(word, addr) => put_three(out, addr, word, 0),
-        Here::Data(word, addr) => put_three(out, addr, word, 1),
-        Here::End => NO_PLACE,
+        Here::Word(word, addr) => put_three(out, [addr, word, 0]),
+        Here::Data(word, addr) => put_three(out, [addr, word, 1]),
+        Here::End => Err(Refusal::NoPlace),
     }
 }
 
-fn put_three(out: &mut [u32], a: u32, b: u32, c: u32) -> u8
-    ensures value { result ≡ (answer_of (a ∷ b ∷ c ∷ []) out.old).refusal }
-    ensures out_after { out.new ≡ last_of (a ∷ b ∷ c ∷ []) out.old }
+/// Three numbers, or nothing. `put_whole` of `text` is for bytes alone.
+fn put_three(out: &mut [u32], numbers: [u32; 3]) -> Result<(), Refusal>
+    ensures value { refused_with result ≡ refused_with (answer_of numbers out.old) }
+    ensures out_after { out.new ≡ last_of numbers out.old }
 {
-    if out.len() < 3 {
-        return NO_ROOM;
+    if out.len() < numbers.len() {
+        return Err(Refusal::NoRoom);
     }
-    out[0] = a;
-    out[1] = b;
-    out[2] = c;
-    0
+    put(out, 0, &numbers);
+    Ok(())
 }
 
 /// Writes `section` as one of version 1, and gives its length, with a refusal's number above it.
@@ -187,8 +187,7 @@ pub fn brassdozen_to_v1(section: &[u8], out: &mut [u8]) -> u64
     ensures value { result ≡ converted_to Target.One section.now out.old }
     ensures out_after { out.new ≡ left_of Target.One section.now out.old }
 {
-    let w = convert(section, Target::One, out);
-    pack(w.refusal, w.len as u32)
+    pack_len(convert(section, Target::One, out))
 }
 
 /// Writes `section` as one of version 2, as `brassdozen_to_v1` does as one of version 1.
@@ -196,8 +195,7 @@ pub fn brassdozen_to_v2(section: &[u8], out: &mut [u8]) -> u64
     ensures value { result ≡ converted_to Target.Two section.now out.old }
     ensures out_after { out.new ≡ left_of Target.Two section.now out.old }
 {
-    let w = convert(section, Target::Two, out);
-    pack(w.refusal, w.len as u32)
+    pack_len(convert(section, Target::Two, out))
 }
 
 /// Walks through `section` from place `entry` and writes the report's records, of three numbers each. Gives how many there are, above that how many
@@ -205,8 +203,10 @@ pub fn brassdozen_to_v2(section: &[u8], out: &mut [u8]) -> u64
 pub fn brassdozen_walk(section: &[u8], entry: u32, records: &mut [u32]) -> u64
     ensures { WalksForC section.now entry records.old result records.new }
 {
-    let w = walk(section, entry as usize, records);
-    pack(w.refusal, 0x1_0000 * w.words as u32 + w.records as u32)
+    match walk(section, entry as usize, records) {
+        Ok(walked) => pack(0, 0x1_0000 * walked.words as u32 + walked.records as u32),
+        Err(refusal) => pack(refusal.number(), 0),
+    }
 }
 
 /// Adds `section` to the tally at the start of `counts`, and gives 0; or gives a refusal's number.
@@ -214,7 +214,7 @@ pub fn brassdozen_tally(section: &[u8], counts: &mut [u64]) -> u8
     ensures value { result ≡ lent_refusal (own_of section.now) counts.old }
     ensures counts_after { counts.new ≡ lent_last section.now counts.old }
 {
-    add_to(counts, section)
+    number_of(&add_to(counts, section))
 }
 
 /// Which of the section's words at `base` and the patch's at `over` holds the `len` bytes from `addr` on, and from which of its bytes on: that place,
@@ -230,9 +230,9 @@ pub fn brassdozen_run(
     ensures { result ≡ found_for_c (found_of (section.now from base) (patch.now from over) addr len) }
 {
     match find(section, base, patch, over, addr, len) {
-        Found::Patch(place) => pack(0, 0x1_0000 + place as u32),
-        Found::Section(place) => pack(0, place as u32),
-        Found::Refused(refusal) => pack(refusal, 0),
+        Ok(Found::Patch(place)) => pack(0, 0x1_0000 + place as u32),
+        Ok(Found::Section(place)) => pack(0, place as u32),
+        Err(refusal) => pack(refusal.number(), 0),
     }
 }
 
@@ -241,16 +241,14 @@ pub fn brassdozen_patched<'a>(section: &'a [u8], patch: &'a [u8], out: &mut [u8]
     ensures value { result ≡ patched_for section.now patch.now out.old }
     ensures out_after { out.new ≡ patched_left section.now patch.now out.old }
 {
-    let w = patched(section, patch, out);
-    pack(w.refusal, w.len as u32)
+    pack_len(patched(section, patch, out))
 }
 
 /// Writes the index of the calls of `section`, target and caller in turn, and gives how many there are, with a refusal's number above it.
 pub fn brassdozen_index(section: &[u8], index: &mut [u32]) -> u64
     ensures { BuildsForC section.now index.old result index.new }
 {
-    let built = build(section, index);
-    pack(built.refusal, built.count as u32)
+    pack_len(build(section, index))
 }
 
 /// Replaces the word at a place of `section`, and updates its index of `count` calls. Gives how many there are now, with a refusal's number above it.
@@ -263,16 +261,14 @@ pub fn brassdozen_replace(
 ) -> u64
     ensures { ReplacesForC section.old place word index.old count result section.new index.new }
 {
-    let updated = replace(section, place as usize, word, index, count as usize);
-    pack(updated.refusal, updated.count as u32)
+    pack_len(replace(section, place as usize, word, index, count as usize))
 }
 
 /// Writes the callers of `target` in an index of `count` calls, and gives how many there are, with a refusal's number above it.
 pub fn brassdozen_callers(index: &[u32], count: u32, target: u32, out: &mut [u32]) -> u64
     ensures { FindsForC index.now count target out.old result out.new }
 {
-    let found = callers(index, count as usize, target, out);
-    pack(found.refusal, found.len as u32)
+    pack_len(callers(index, count as usize, target, out))
 }
 
 /// Puts `section` in its home form and lists its changes, of three numbers each. Gives how many there are, above that how many were of the unindexed
@@ -280,11 +276,13 @@ pub fn brassdozen_callers(index: &[u32], count: u32, target: u32, out: &mut [u32
 pub fn brassdozen_home_form(section: &mut [u8], changes: &mut [u32]) -> u64
     ensures { PutsHomeForC section.old changes.old result section.new changes.new }
 {
-    let put = home_form(section, changes);
-    pack(
-        put.refusal,
-        0x1_0000 * put.unindexed as u32 + put.changes as u32,
-    )
+    match home_form(section, changes) {
+        Ok(changed) => pack(
+            0,
+            0x1_0000 * changed.unindexed as u32 + changed.changes as u32,
+        ),
+        Err(refusal) => pack(refusal.number(), 0),
+    }
 }
 
 /// Judges the rule of a barrier before every commit for a program in numbers, as `rule_verdict` has it. Gives the number of places of the way that
@@ -301,9 +299,17 @@ pub fn brassdozen_judge(
 ) -> u64
     ensures { JudgesForC flags.now targets.now further.now entries.now known.old dist.old prior.old way.old result known.new dist.new prior.new way.new }
 {
-    let judged = judge(flags, targets, further, entries, known, dist, prior, way);
-    pack(
-        judged.refusal,
-        0x1_0000 * judged.verdict as u32 + judged.number as u32,
-    )
+    let program = Coded {
+        flags,
+        targets,
+        further,
+        entries,
+    };
+    match judge(program, known, dist, prior, way) {
+        Ok(verdict) => pack(
+            0,
+            0x1_0000 * verdict.number() as u32 + verdict.value() as u32,
+        ),
+        Err(refusal) => pack(refusal.number(), 0),
+    }
 }

@@ -8,8 +8,9 @@ use borrow.Author.Tests.{eqb-true, eqb-false, ltb-true, ltb-false}
 use lib.Dec.{eqb, ltb}
 use lib.ListN.{length, take, drop, take-append-drop}
 use lib.Seq.{take-suc, take_all}
+use Rattle.std.specs.Prelude.{Option}
 use Rattle.word.specs.Choice.{by_test}
-use Rattle.section.specs.Section.{opened_of, places_of, here_of}
+use Rattle.section.specs.Section.{opened_in, opening_of, places_of, here_of}
 use Rattle.section.specs.Replaced.{replaced_of}
 use Rattle.section.specs.declared.Here.{Here}
 use Rattle.section.specs.declared.Here.TheVariants.{End}
@@ -20,7 +21,6 @@ use Rattle.section.proofs.Replaced.{opened_alike, stays_elsewhere}
 use Rattle.callers_index.specs.Entries.{update_of}
 use Rattle.callers_index.specs.Ordered.{In, Ordered}
 use Rattle.callers_index.specs.declared.Entry.{Entry}
-use Rattle.callers_index.specs.declared.Callee.{Callee}
 use Rattle.callers_index.proofs.Updating.{entered_length}
 use Rattle.callers_index.proofs.Ordered.{Called, Other, same_list, enter_only, enter_holds, enter_ordered, update_only, update_holds, update_ordered}
 use Rattle.callers.specs.Calls.{callee_here, address_here, add_here, index_of, IsCall}
@@ -78,7 +78,7 @@ module _ (s : List ℕ) where
       (λ b.
       let last : found.0 ≡ n = omega (arith, ltb-false found.0 n b, found.1) in
       inr (
-        at.caller ∙ ap (λ (p : ℕ). (opened_of s).base + 4 * p) last ∙ sym (address s n below),
+        at.caller ∙ ap (λ (p : ℕ). (opening_of s).base + 4 * p) last ∙ sym (address s n below),
         ap (λ (p : ℕ). callee_here (here_of s p)) (sym last) ∙ at.callee,
       ))))
 
@@ -109,12 +109,15 @@ module _ (s : List ℕ) where
   holds_exactly e = (λ i. let found = found_in e i in is_call s found.0 e found.2, λ is. in_found e is.place (call_at s e is))
 
 -- a call of a section with another word at a place is that word's, or was one before
-module _ (s : List ℕ) (place w : ℕ) (inside : place < (opened_of s).count) where
-  as_many : length (places_of s) ≡ length (places_of (replaced_of s place w))
-  as_many = how_many_lem s ∙ ap (λ (o : Opened). o.count) (opened_alike s place w inside) ∙ sym (how_many_lem (replaced_of s place w))
+module _ (s : List ℕ) (place w : ℕ) (inside : place < (opening_of s).count) where
+  opening_alike : opening_of s ≡ opening_of (replaced_of s place w)
+  opening_alike = ap opened_in (opened_alike s place w inside)
 
-  base_alike : (opened_of s).base ≡ (opened_of (replaced_of s place w)).base
-  base_alike = ap (λ (o : Opened). o.base) (opened_alike s place w inside)
+  as_many : length (places_of s) ≡ length (places_of (replaced_of s place w))
+  as_many = how_many_lem s ∙ ap (λ (o : Opened). o.count) opening_alike ∙ sym (how_many_lem (replaced_of s place w))
+
+  base_alike : (opening_of s).base ≡ (opening_of (replaced_of s place w)).base
+  base_alike = ap (λ (o : Opened). o.base) opening_alike
 
   kept : (p : ℕ) (e : Entry) → (p ≡ place → ⊥) → CallAt s p e → CallAt (replaced_of s place w) p e
   kept p e apart at = record {
@@ -132,9 +135,9 @@ module _ (s : List ℕ) (place w : ℕ) (inside : place < (opened_of s).count) w
 
   -- the caller whose word is replaced, and what it calls then
   abbrev caller : ℕ
-  caller = (opened_of s).base + 4 * place
+  caller = (opening_of s).base + 4 * place
 
-  abbrev callee : Callee
+  abbrev callee : Option ℕ
   callee = callee_here (here_of (replaced_of s place w) place)
 
   -- "If the index handed in was the one built from the old words, the updated one equals an index built afresh from the new words"
@@ -149,7 +152,7 @@ module _ (s : List ℕ) (place w : ℕ) (inside : place < (opened_of s).count) w
           (λ (old : In e (index_of s) × Other caller e).
           let found = found_in s e old.0 in
           in_found (replaced_of s place w) e found.0
-          (kept found.0 e (λ same. old.1 (found.2.caller ∙ ap (λ (p : ℕ). (opened_of s).base + 4 * p) same)) found.2))
+          (kept found.0 e (λ same. old.1 (found.2.caller ∙ ap (λ (p : ℕ). (opening_of s).base + 4 * p) same)) found.2))
           (λ (call : Called caller callee e).
           in_found (replaced_of s place w) e place
           (record {
@@ -167,7 +170,7 @@ module _ (s : List ℕ) (place w : ℕ) (inside : place < (opened_of s).count) w
           (λ b.
           let same = eqb-true found.0 place b in
           inr (
-            found.2.caller ∙ ap (λ (n : ℕ). n + 4 * found.0) (sym base_alike) ∙ ap (λ (p : ℕ). (opened_of s).base + 4 * p) same,
+            found.2.caller ∙ ap (λ (n : ℕ). n + 4 * found.0) (sym base_alike) ∙ ap (λ (p : ℕ). (opening_of s).base + 4 * p) same,
             ap (λ (p : ℕ). callee_here (here_of (replaced_of s place w) p)) (sym same) ∙ found.2.callee,
           ))
           (λ b.

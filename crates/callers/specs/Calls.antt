@@ -1,8 +1,8 @@
 -- The direct calls of a section, and the index of them (02, P12).
-use Rattle.std.specs.Prelude.{◌≡◌, ℕ, eqb}
+use Rattle.std.specs.Prelude.{◌≡◌, ℕ, Option, Some, None, Ok, Err}
 use mathlib.Core.List.{List, [], foldl}
-use Rattle.word.specs.Choice.{pick}
-use Rattle.insn.specs.declared.Decoded.{Decoded}
+use Rattle.word.specs.Refusal.{refused_with}
+use Rattle.insn.specs.Answer.{Decoded, insn_in}
 use Rattle.insn.specs.declared.Flow.{Flow}
 use Rattle.insn.specs.declared.Flow.TheVariants.{Next, Branch, CondBranch, IndirectBranch, Call, IndirectCall, Return, Trap}
 use Rattle.a32.specs.Decode.{decode_of}
@@ -11,25 +11,24 @@ use Rattle.section.specs.declared.Here.{Here}
 use Rattle.section.specs.declared.Here.TheVariants.{Word, Data, End}
 use Rattle.callers_index.specs.Entries.{enter_of}
 use Rattle.callers_index.specs.declared.Entry.{Entry}
-use Rattle.callers_index.specs.declared.Callee.{Callee}
-use Rattle.callers_index.specs.declared.Callee.TheVariants.{None, At}
 
 -- "direct calls": those whose flow is call
-abbrev pub flow_callee : Flow → Callee
+abbrev pub flow_callee : Flow → Option ℕ
 flow_callee Next = None
 flow_callee (Branch to) = None
 flow_callee (CondBranch to) = None
 flow_callee IndirectBranch = None
-flow_callee (Call to) = At to
+flow_callee (Call to) = Some to
 flow_callee IndirectCall = None
 flow_callee Return = None
 flow_callee Trap = None
 
-abbrev pub answer_callee : Decoded → Callee
-answer_callee d = pick (eqb d.refusal 0) (flow_callee d.insn.flow) None
+abbrev pub answer_callee : Decoded → Option ℕ
+answer_callee (Ok insn) = flow_callee insn.flow
+answer_callee (Err refusal) = None
 
 -- "Data words are never calls"
-abbrev pub callee_here : Here → Callee
+abbrev pub callee_here : Here → Option ℕ
 callee_here (Word word address) = answer_callee (decode_of word address)
 callee_here (Data word address) = None
 callee_here End = None
@@ -51,5 +50,5 @@ pub record IsCall (s : List ℕ) (e : Entry) : Type 0 where
   pub place : ℕ
   pub word : ℕ
   pub stands : here_of s place ≡ Word word e.caller
-  pub named : (decode_of word e.caller).refusal ≡ 0
-  pub calls : (decode_of word e.caller).insn.flow ≡ Call e.target
+  pub named : refused_with (decode_of word e.caller) ≡ 0
+  pub calls : (insn_in (decode_of word e.caller)).flow ≡ Call e.target

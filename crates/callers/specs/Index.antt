@@ -1,14 +1,14 @@
 -- What building an index and updating it with one word replaced answer, and what they leave in what is lent (02, P12).
-use Rattle.std.specs.Prelude.{◌≡◌, List, ℕ, ◌+◌, ◌*◌, eqb, ltb, length}
+use Rattle.std.specs.Prelude.{◌≡◌, List, ℕ, ◌+◌, ◌*◌, eqb, ltb, length, Result, Ok}
 use Rattle.word.specs.Choice.{pick}
-use Rattle.word.specs.Refusal.{NO_PLACE, TOO_MANY_CALLS}
+use Rattle.word.specs.Refusal.{NO_PLACE, TOO_MANY_CALLS, refused_with, refusing}
+use Rattle.word.specs.declared.refusal.Refusal.{Refusal}
 use Rattle.text.specs.Text.{written}
-use Rattle.section.specs.Section.{opened_of, here_of}
+use Rattle.section.specs.Section.{opened_of, opening_of, here_of}
 use Rattle.section.specs.Replaced.{replaced_of}
 use Rattle.callers_index.specs.Entries.{entries_of, numbers_of, update_of, lent_refusal}
 use Rattle.callers_index.specs.declared.Entry.{Entry}
 use Rattle.callers.specs.Calls.{callee_here, index_of}
-use Rattle.callers.specs.declared.Indexed.{Indexed}
 
 -- the first of two refusals
 infixr 5 ◌else◌
@@ -17,30 +17,30 @@ first else second = pick (eqb first 0) second first
 
 -- "13 for a place outside it", "15 when an index built or updated would hold more than 1,024"
 abbrev pub no_place : List ℕ → ℕ → ℕ
-no_place s place = pick (ltb place (opened_of s).count) 0 NO_PLACE
+no_place s place = pick (ltb place (opening_of s).count) 0 NO_PLACE
 
 abbrev pub too_many : List Entry → ℕ
 too_many l = pick (ltb 1024 (length l)) TOO_MANY_CALLS 0
 
 -- the index after the word at a place is replaced: the steps of an update, by what stands there now
 unfoldable pub updated_of : List ℕ → ℕ → ℕ → List Entry → List Entry
-updated_of s place w l = update_of ((opened_of s).base + 4 * place) (callee_here (here_of (replaced_of s place w) place)) l
+updated_of s place w l = update_of ((opening_of s).base + 4 * place) (callee_here (here_of (replaced_of s place w) place)) l
 
 -- "after the section's own": an array that is too short, and too many calls
 unfoldable pub build_refusal : List ℕ → List ℕ → ℕ
-build_refusal s index = (opened_of s).refusal else lent_refusal index 0 else too_many (index_of s)
+build_refusal s index = refused_with (opened_of s) else lent_refusal index 0 else too_many (index_of s)
 
 -- the same with the place, and the count that is handed in
 unfoldable pub replace_refusal : List ℕ → ℕ → ℕ → List ℕ → ℕ → ℕ
 replace_refusal s place w index count =
-    (opened_of s).refusal else no_place s place else lent_refusal index count else too_many (updated_of s place w (entries_of index count))
+    refused_with (opened_of s) else no_place s place else lent_refusal index count else too_many (updated_of s place w (entries_of index count))
 
--- how many entries there are, or a refusal's number alone
-abbrev pub refused_by : ℕ → Indexed
-refused_by n = record { refusal = n; count = 0 }
+-- how many entries there are, or a refusal alone
+abbrev pub Indexed : Type 0
+Indexed = Result ℕ Refusal
 
 abbrev pub indexed_of : ℕ → List Entry → Indexed
-indexed_of refusal l = pick (eqb refusal 0) (record { refusal = 0; count = length l }) (refused_by refusal)
+indexed_of refusal l = pick (eqb refusal 0) (Ok (length l)) (refusing refusal)
 
 -- the entries' numbers stand at the start, and nothing behind them changes; "words and index stay unchanged" where there is a refusal
 abbrev pub index_left : ℕ → List Entry → List ℕ → List ℕ

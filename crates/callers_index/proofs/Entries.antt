@@ -4,11 +4,10 @@ use mathlib.Core.List.{List, [], ◌∷◌, ◌++◌, append_assoc}
 use Prim.Native.Nat.{ℕ, zero, suc, ◌+◌, ◌*◌, ◌-◌, ◌<◌, ◌≤◌}
 use native.Mathlib.Nat.{zero-add}
 use native.Mathlib.Omega.{arith}
-use lib.ListN.{length, get_or, take, drop, set, length-set, take-append-drop}
+use lib.ListN.{length, get_or, take, drop, take-append-drop}
 use lib.Seq.{length-take-le, take-suc, drop-append-add, drop-drop, ext_get_or, get_or-append-add, get_or-drop}
 use Rattle.text.specs.Text.{written}
 use Rattle.text.specs.Put.{Put}
-use Rattle.text.proofs.Writing.{byte, ◌then◌}
 use Rattle.section.specs.Section.{firsts}
 use Rattle.section.proofs.Firsts.{so_many, each}
 use Rattle.callers_index.specs.Entries.{entry_at, entries_of, numbers_of}
@@ -21,12 +20,6 @@ numbers_append (e ∷ l) m = ap (λ (xs : List ℕ). e.target ∷ e.caller ∷ x
 pub numbers_length : (l : List Entry) → length (numbers_of l) ≡ 2 * length l
 numbers_length [] = refl
 numbers_length (e ∷ l) = omega (arith, numbers_length l)
-
--- an entry is two numbers, one after the other
-pub two_put : (out : List ℕ) (at a b : ℕ) → at + 2 ≤ length out → Put out at (a ∷ b ∷ []) (at + 2) (set (set out at a) (at + 1) b)
-two_put out at a b h =
-    let both = byte out at a (omega arith) then byte (set out at a) (at + 1) b (rw (length-set out at a) (omega arith)) in
-    record { ends = refl; holds = both.holds }
 
 -- what stands behind a text that was written from the first place on is as it was
 behind : {out last s : List ℕ} {next k : ℕ} → Put out 0 s next last → next ≤ k → get_or last k 0 ≡ get_or out k 0

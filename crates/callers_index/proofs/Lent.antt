@@ -1,5 +1,5 @@
 -- An index as it is lent, and the callers of a target in a lent buffer. Assumes nothing.
-use mathlib.Core.Path.{◌≡◌, ◌∙◌}
+use mathlib.Core.Path.{◌≡◌, refl, sym, ap, ◌∙◌}
 use mathlib.Core.List.{List, [], ◌∷◌}
 use Prim.Native.Nat.{ℕ, ◌≤◌}
 use native.Mathlib.Omega.{arith}
@@ -7,12 +7,21 @@ use borrow.Author.Tests.{ltb-false, eqb-true, eq-eqb, ne_eqb}
 use lib.Dec.{eqb, ltb, leb}
 use lib.ListN.{length}
 use Rattle.word.specs.Choice.{by_test}
-use Rattle.text.specs.Fits.{answer_of}
+use Rattle.std.specs.Prelude.{Result, Ok, Err}
+use Rattle.word.specs.declared.refusal.Refusal.{Refusal}
+use Rattle.word.specs.Refusal.{number, numbered, refused_with, numbered_number, not_refused}
+use Rattle.text.specs.Fits.{Written, len_in, answer_of}
 use Rattle.text.proofs.Settled.{Settles}
-use Rattle.text.specs.declared.Written.{Written}
 use Rattle.section.proofs.Firsts.{so_many}
 use Rattle.callers_index.specs.Entries.{entry_at, entries_of, callers_of, lent_refusal, found_of, left_of}
 use Rattle.callers_index.specs.declared.Entry.{Entry}
+
+-- the number determines the refusal
+pub one_refusal : (r s : Result (Unit {0}) Refusal) → refused_with r ≡ refused_with s → r ≡ s
+one_refusal (Ok x) (Ok y) e = refl
+one_refusal (Ok x) (Err s) e = not_refused s (sym e)
+one_refusal (Err r) (Ok y) e = not_refused r e
+one_refusal (Err r) (Err s) e = ap Err (sym (numbered_number r) ∙ ap numbered e ∙ numbered_number s)
 
 module _ (index : List ℕ) (count : ℕ) where
   -- what passes is long enough, and holds few enough
@@ -35,10 +44,10 @@ module _ (index : List ℕ) (count : ℕ) where
         let none = eq-eqb (lent_refusal index count) 0 ok in
         (settles.0 ∙ simp none, settles.1 ∙ simp none)
 
-    pub refuses : {n : ℕ} → n ≡ lent_refusal index count → (n ≡ 0 → ⊥) → Finds (record { refusal = n; len = 0 }) out
-    refuses is some = unfold found_of left_of in
-        let one = ne_eqb (lent_refusal index count) 0 (λ none. some (is ∙ none)) in
-        (rw is (simp one), simp one)
+    pub refuses : (r : Refusal) → number r ≡ lent_refusal index count → Finds (Err r) out
+    refuses r is = unfold found_of left_of in
+        let one = ne_eqb (lent_refusal index count) 0 (λ none. not_refused r (is ∙ none)) in
+        (simp one (rw (← is, numbered_number r)), simp one)
 
 -- a target has no more callers than there are entries
 callers_few : (target : ℕ) (l : List Entry) → length (callers_of target l) ≤ length l
@@ -46,7 +55,7 @@ callers_few target [] = omega arith
 callers_few target (e ∷ l) =
     by_test (eqb e.target target) (λ b. simp b (omega (arith, callers_few target l))) (λ b. simp b (omega (arith, callers_few target l)))
 
-pub found_small : (index : List ℕ) (count target : ℕ) (out : List ℕ) → (found_of index count target out).len ≤ 1024
+pub found_small : (index : List ℕ) (count target : ℕ) (out : List ℕ) → len_in (found_of index count target out) ≤ 1024
 found_small index count target out = unfold found_of answer_of in
     by_test (eqb (lent_refusal index count) 0)
     (λ ok.

@@ -1,4 +1,5 @@
 -- A list in order is determined by what it holds; inserting and removing keep the order. Assumes nothing.
+use Rattle.std.specs.Prelude.{Option, Some, None}
 use mathlib.Core.Path.{◌≡◌, refl, sym, ap, subst, ◌∙◌}
 use mathlib.Core.Bool.{false}
 use mathlib.Core.List.{List, [], ◌∷◌}
@@ -11,8 +12,6 @@ use Rattle.word.specs.Choice.{by_test}
 use Rattle.callers_index.specs.Entries.{is_before, insert_of, enter_of, remove_of, update_of}
 use Rattle.callers_index.specs.Ordered.{Before, In, Ordered}
 use Rattle.callers_index.specs.declared.Entry.{Entry}
-use Rattle.callers_index.specs.declared.Callee.{Callee}
-use Rattle.callers_index.specs.declared.Callee.TheVariants.{None, At}
 
 -- the order on numbers
 abbrev Less : Entry → Entry → Type 0
@@ -150,40 +149,40 @@ module _ (caller : ℕ) where
       simp (ne_eqb f.caller caller (all f (inl refl))) (ap (λ (k : List Entry). f ∷ k) (none_removed l (λ g i. all g (inr i))))
 
   -- a call that goes in
-  abbrev pub Called : Callee → Entry → Type 0
-  Called callee g = (g.caller ≡ caller) × (callee ≡ At g.target)
+  abbrev pub Called : Option ℕ → Entry → Type 0
+  Called callee g = (g.caller ≡ caller) × (callee ≡ Some g.target)
 
-  pub enter_only : (callee : Callee) (l : List Entry) (g : Entry) → In g (enter_of caller callee l) → In g l ⊎ Called callee g
+  pub enter_only : (callee : Option ℕ) (l : List Entry) (g : Entry) → In g (enter_of caller callee l) → In g l ⊎ Called callee g
   enter_only None l g i = inl i
-  enter_only (At target) l g i =
+  enter_only (Some target) l g i =
       ⊎_elim (λ (is : g ≡ record { target = target; caller = caller }).
-      inr (ap (λ (x : Entry). x.caller) is, ap At (sym (ap (λ (x : Entry). x.target) is))))
+      inr (ap (λ (x : Entry). x.caller) is, ap Some (sym (ap (λ (x : Entry). x.target) is))))
       (λ (j : In g l). inl j)
       (insert_only (record { target = target; caller = caller }) l g i)
 
-  pub enter_holds : (callee : Callee) (l : List Entry) (g : Entry) → In g l ⊎ Called callee g → In g (enter_of caller callee l)
+  pub enter_holds : (callee : Option ℕ) (l : List Entry) (g : Entry) → In g l ⊎ Called callee g → In g (enter_of caller callee l)
   enter_holds None l g (inl i) = i
   enter_holds None l g (inr call) = absurd (let z : ◌≡◌ {A = ℕ} 0 1 = cc in omega arith)
-  enter_holds (At target) l g (inl i) = insert_holds (record { target = target; caller = caller }) l g (inr i)
-  enter_holds (At target) l g (inr call) =
+  enter_holds (Some target) l g (inl i) = insert_holds (record { target = target; caller = caller }) l g (inr i)
+  enter_holds (Some target) l g (inr call) =
       let to : target ≡ g.target = cc in
       insert_holds (record { target = target; caller = caller }) l g (inl (same_entry (sym to) call.0))
 
-  pub enter_ordered : (callee : Callee) (l : List Entry) → Ordered l → ((g : Entry) → In g l → Other g) → Ordered (enter_of caller callee l)
+  pub enter_ordered : (callee : Option ℕ) (l : List Entry) → Ordered l → ((g : Entry) → In g l → Other g) → Ordered (enter_of caller callee l)
   enter_ordered None l o others = o
-  enter_ordered (At target) l o others = insert_ordered (record { target = target; caller = caller }) l o (λ i. others _ i refl)
+  enter_ordered (Some target) l o others = insert_ordered (record { target = target; caller = caller }) l o (λ i. others _ i refl)
 
   -- an update holds the entries of other callers, and the call
-  pub update_only : (callee : Callee) (l : List Entry) (g : Entry) → In g (update_of caller callee l) → (In g l × Other g) ⊎ Called callee g
+  pub update_only : (callee : Option ℕ) (l : List Entry) (g : Entry) → In g (update_of caller callee l) → (In g l × Other g) ⊎ Called callee g
   update_only callee l g i = unfold update_of in
       ⊎_elim (λ (j : In g (remove_of caller l)). inl (remove_only l g j)) (λ (call : Called callee g). inr call)
       (enter_only callee (remove_of caller l) g i)
 
-  pub update_holds : (callee : Callee) (l : List Entry) (g : Entry) → (In g l × Other g) ⊎ Called callee g → In g (update_of caller callee l)
+  pub update_holds : (callee : Option ℕ) (l : List Entry) (g : Entry) → (In g l × Other g) ⊎ Called callee g → In g (update_of caller callee l)
   update_holds callee l g i = unfold update_of in
       enter_holds callee (remove_of caller l) g
       (⊎_elim (λ (j : In g l × Other g). inl (remove_holds l g j.0 j.1)) (λ (call : Called callee g). inr call) i)
 
-  pub update_ordered : (callee : Callee) (l : List Entry) → Ordered l → Ordered (update_of caller callee l)
+  pub update_ordered : (callee : Option ℕ) (l : List Entry) → Ordered l → Ordered (update_of caller callee l)
   update_ordered callee l o = unfold update_of in
       enter_ordered callee (remove_of caller l) (remove_ordered l o) (λ g i. (remove_only l g i).1)

@@ -1,4 +1,5 @@
 -- An update that moves each entry once makes the list of 02's steps. Assumes nothing.
+use Rattle.std.specs.Prelude.{Option, Some, None}
 use mathlib.Core.Path.{◌≡◌, refl, sym, ap, subst, ◌∙◌}
 use mathlib.Core.List.{List, [], ◌∷◌, ◌++◌, append_assoc}
 use Prim.Native.Nat.{ℕ, ◌+◌, ◌*◌, ◌≤◌}
@@ -11,8 +12,6 @@ use Rattle.text.proofs.Writing.{none, ◌then◌}
 use Rattle.callers_index.specs.Entries.{numbers_of, is_before, insert_of, enter_of, one_of, remove_of, update_of}
 use Rattle.callers_index.specs.Updating.{ahead_of, begin_of, first_of, rest_of, writes_of, goes_on}
 use Rattle.callers_index.specs.declared.Entry.{Entry}
-use Rattle.callers_index.specs.declared.Callee.{Callee}
-use Rattle.callers_index.specs.declared.Callee.TheVariants.{None, At}
 use Rattle.callers_index.specs.declared.Ahead.{Ahead}
 use Rattle.callers_index.specs.declared.Ahead.TheVariants.{Kept, Call, Moved}
 use Rattle.callers_index.proofs.Entries.{numbers_append, numbers_length}
@@ -30,11 +29,11 @@ goes_on_lem caller ahead f l =
     (λ b. simp b)
     (λ b. simp b (one_on ahead f (remove_of caller l)))
 
-begins : (caller : ℕ) (callee : Callee) (l : List Entry) → ahead_of (begin_of caller callee) (remove_of caller l) ≡ update_of caller callee l
+begins : (caller : ℕ) (callee : Option ℕ) (l : List Entry) → ahead_of (begin_of caller callee) (remove_of caller l) ≡ update_of caller callee l
 begins caller None l = unfold update_of in refl
-begins caller (At target) l = unfold update_of in refl
+begins caller (Some target) l = unfold update_of in refl
 
-pub leads_to : {start : Ahead} (caller : ℕ) (callee : Callee) (l : List Entry) → start ≡ begin_of caller callee
+pub leads_to : {start : Ahead} (caller : ℕ) (callee : Option ℕ) (l : List Entry) → start ≡ begin_of caller callee
     → ahead_of start (remove_of caller l) ≡ update_of caller callee l
 leads_to caller callee l is = ap (λ (x : Ahead). ahead_of x (remove_of caller l)) is ∙ begins caller callee l
 
@@ -88,18 +87,18 @@ pub writes_one : (caller : ℕ) (ahead : Ahead) (f : Entry) → length (numbers_
 writes_one caller ahead f = by_test (eqb f.caller caller) (λ b. simp b (omega arith)) (λ b. simp b (omega arith))
 
 -- how many entries there are after an update
-pub one_at_most : (callee : Callee) → one_of callee ≤ 1
+pub one_at_most : (callee : Option ℕ) → one_of callee ≤ 1
 one_at_most None = omega arith
-one_at_most (At target) = omega arith
+one_at_most (Some target) = omega arith
 
 one_more : (e : Entry) (l : List Entry) → length (insert_of e l) ≡ 1 + length l
 one_more e [] = refl
 one_more e (f ∷ l) = by_test (is_before e f) (λ b. simp b (omega arith)) (λ b. simp b (omega (arith, one_more e l)))
 
-pub entered_length : (caller : ℕ) (callee : Callee) (l : List Entry) → length (enter_of caller callee l) ≡ one_of callee + length l
+pub entered_length : (caller : ℕ) (callee : Option ℕ) (l : List Entry) → length (enter_of caller callee l) ≡ one_of callee + length l
 entered_length caller None l = omega arith
-entered_length caller (At target) l = one_more (record { target = target; caller = caller }) l
+entered_length caller (Some target) l = one_more (record { target = target; caller = caller }) l
 
-pub updated_length : (caller : ℕ) (callee : Callee) (l : List Entry)
+pub updated_length : (caller : ℕ) (callee : Option ℕ) (l : List Entry)
     → length (update_of caller callee l) ≡ one_of callee + length (remove_of caller l)
 updated_length caller callee l = unfold update_of in entered_length caller callee (remove_of caller l)

@@ -1,13 +1,10 @@
 -- An index of calls: "target and caller address, ordered by target and then caller" (02, P12).
-use Rattle.std.specs.Prelude.{Bool, List, [], ◌∷◌, ℕ, ◌+◌, ◌*◌, eqb, ltb, length, get_or}
+use Rattle.std.specs.Prelude.{Option, Some, None, Bool, List, [], ◌∷◌, ℕ, ◌+◌, ◌*◌, eqb, ltb, length, get_or}
 use Rattle.word.specs.Choice.{pick}
-use Rattle.word.specs.Refusal.{NO_ROOM, TOO_MANY_CALLS}
-use Rattle.text.specs.Fits.{answer_of, last_of}
-use Rattle.text.specs.declared.Written.{Written}
+use Rattle.word.specs.Refusal.{NO_ROOM, TOO_MANY_CALLS, refusing}
+use Rattle.text.specs.Fits.{Written, answer_of, last_of}
 use Rattle.section.specs.Section.{firsts}
 use Rattle.callers_index.specs.declared.Entry.{Entry}
-use Rattle.callers_index.specs.declared.Callee.{Callee}
-use Rattle.callers_index.specs.declared.Callee.TheVariants.{None, At}
 
 -- an array of numbers holds an entry's target and caller one after the other; the first n entries of an array, and the numbers of entries
 abbrev pub entry_at : List ℕ → ℕ → Entry
@@ -29,14 +26,14 @@ abbrev pub insert_of : Entry → List Entry → List Entry
 insert_of e [] = e ∷ []
 insert_of e (f ∷ l) = pick (is_before e f) (e ∷ f ∷ l) (f ∷ insert_of e l)
 
-abbrev pub enter_of : ℕ → Callee → List Entry → List Entry
+abbrev pub enter_of : ℕ → Option ℕ → List Entry → List Entry
 enter_of caller None l = l
-enter_of caller (At target) l = insert_of (record { target = target; caller = caller }) l
+enter_of caller (Some target) l = insert_of (record { target = target; caller = caller }) l
 
 -- how many entries a call is
-abbrev pub one_of : Callee → ℕ
+abbrev pub one_of : Option ℕ → ℕ
 one_of None = 0
-one_of (At target) = 1
+one_of (Some target) = 1
 
 -- "that caller's entries go"
 abbrev pub remove_of : ℕ → List Entry → List Entry
@@ -44,7 +41,7 @@ remove_of caller [] = []
 remove_of caller (e ∷ l) = pick (eqb e.caller caller) (remove_of caller l) (e ∷ remove_of caller l)
 
 -- "Any list gets the same steps: that caller's entries go, and a call goes in"
-unfoldable pub update_of : ℕ → Callee → List Entry → List Entry
+unfoldable pub update_of : ℕ → Option ℕ → List Entry → List Entry
 update_of caller callee l = enter_of caller callee (remove_of caller l)
 
 -- the callers of a target, in the list's order
@@ -56,11 +53,11 @@ callers_of target (e ∷ l) = pick (eqb e.target target) (e.caller ∷ callers_o
 abbrev pub lent_refusal : List ℕ → ℕ → ℕ
 lent_refusal index count = pick (ltb (length index) 2048) NO_ROOM (pick (ltb 1024 count) TOO_MANY_CALLS 0)
 
--- the callers of a target in a lent buffer, if there is room; a refusal is its number alone, and changes nothing
+-- the callers of a target in a lent buffer, if there is room; a refusal changes nothing
 unfoldable pub found_of : List ℕ → ℕ → ℕ → List ℕ → Written
 found_of index count target out =
     pick (eqb (lent_refusal index count) 0) (answer_of (callers_of target (entries_of index count)) out)
-    (record { refusal = lent_refusal index count; len = 0 })
+    (refusing (lent_refusal index count))
 
 unfoldable pub left_of : List ℕ → ℕ → ℕ → List ℕ → List ℕ
 left_of index count target out =

@@ -1,10 +1,8 @@
 -- An update as it moves entries, each once: what becomes of those ahead, and what is written for the next of them.
-use Rattle.std.specs.Prelude.{List, [], ◌∷◌, ℕ, eqb}
+use Rattle.std.specs.Prelude.{Option, Some, None, List, [], ◌∷◌, ℕ, eqb}
 use Rattle.word.specs.Choice.{pick}
 use Rattle.callers_index.specs.Entries.{is_before, insert_of}
 use Rattle.callers_index.specs.declared.Entry.{Entry}
-use Rattle.callers_index.specs.declared.Callee.{Callee}
-use Rattle.callers_index.specs.declared.Callee.TheVariants.{None, At}
 use Rattle.callers_index.specs.declared.Ahead.{Ahead}
 use Rattle.callers_index.specs.declared.Ahead.TheVariants.{Kept, Call, Moved}
 
@@ -14,9 +12,9 @@ ahead_of Kept l = l
 ahead_of (Call e) l = insert_of e l
 ahead_of (Moved e) l = e ∷ l
 
-abbrev pub begin_of : ℕ → Callee → Ahead
+abbrev pub begin_of : ℕ → Option ℕ → Ahead
 begin_of caller None = Kept
-begin_of caller (At target) = Call (record { target = target; caller = caller })
+begin_of caller (Some target) = Call (record { target = target; caller = caller })
 
 -- what is written where entry f is next, and how it goes on
 abbrev pub first_of : Ahead → Entry → Entry

@@ -1,48 +1,39 @@
 //! An index of calls in a lent array of numbers: an update, and the callers of a target.
 #![tactic(auto)]
 
-ghost use Rattle.std.specs.Prelude.{◌≡◌, [], ◌∷◌, ◌+◌, ◌*◌, ◌≤◌, eqb, length};
-ghost use Rattle.word.specs.Choice.{pick};
+ghost use Rattle.std.specs.Prelude.{◌≡◌, [], ◌∷◌, ◌+◌, ◌*◌, ◌≤◌, length};
+ghost use Rattle.word.specs.Refusal.{refused_with};
 ghost use Rattle.text.specs.Text.{written};
 ghost use Rattle.text.specs.Put.{Room, Put};
-ghost use Rattle.callers_index.specs.Entries.{entry_at, entries_of, numbers_of, is_before, one_of, update_of};
+ghost use Rattle.callers_index.specs.Entries.{entry_at, entries_of, numbers_of, is_before, update_of};
 ghost use Rattle.callers_index.specs.Entries.{callers_of, lent_refusal, found_of, left_of};
 ghost use Rattle.callers_index.specs.Updating.{ahead_of, begin_of, first_of, rest_of, writes_of, goes_on};
 
-use text::Written;
-use word::refusal::{NO_ROOM, TOO_MANY_CALLS};
+use text::{Written, put, put_one};
+use word::refusal::Refusal;
 
-/// So many numbers are lent for an index.
+/// So many numbers are lent for an index. C lends them, so the entries stand in them as pairs of numbers and not as values of a type of their own.
 const NUMBERS: usize = 2048;
 
 /// An index holds so many entries at most.
 pub const MOST: usize = 1024;
 
-/// A call: the address that it goes to, and its own.
-#[derive(Clone, Copy)]
+/// A call: the address that it goes to, and its own. One comes before another by target, and then by caller.
+#[derive(Clone, Copy, PartialEq, Eq, PartialOrd, Ord)]
 pub struct Entry {
     pub target: u32,
     pub caller: u32,
 }
 
-/// What a word calls.
-#[derive(Clone, Copy)]
-pub enum Callee {
-    None,
-    At(u32),
-}
-
 /// Whether `e` comes before `f`: by target, and then by caller.
+/// The derived order, under the clause that says it.
 fn is_before(e: Entry, f: Entry) -> bool
     ensures { result ≡ is_before e f }
 {
-    if e.target == f.target {
-        e.caller < f.caller
-    } else {
-        e.target < f.target
-    }
+    e < f
 }
 
+/// Entries are taken by number here and below, of which the clauses speak: a chunk of two does not say where it stands.
 fn entry_at(index: &[u32], i: usize) -> Entry
     requires { 2 * i + 2 ≤ length index.now }
     ensures { result ≡ entry_at index.now i }
@@ -58,9 +49,7 @@ fn put_entry(index: &mut [u32], at: usize, e: Entry) -> usize
     requires { Room index.old at (numbers_of (e ∷ [])) }
     ensures { Put index.old at (numbers_of (e ∷ [])) result index.new }
 {
-    index[at] = e.target;
-    index[at + 1] = e.caller;
-    at + 2
+    put(index, at, &[e.target, e.caller])
 }
 
 /// What an update makes of the entries ahead: they stay, or a call goes in among them, or an entry that gave its place away comes first.
@@ -71,12 +60,12 @@ enum Ahead {
     Moved(Entry),
 }
 
-fn begin(caller: u32, callee: Callee) -> Ahead
+fn begin(caller: u32, callee: Option<u32>) -> Ahead
     ensures { result ≡ begin_of caller callee }
 {
     match callee {
-        Callee::None => Ahead::Kept,
-        Callee::At(target) => Ahead::Call(Entry { target, caller }),
+        None => Ahead::Kept,
+        Some(target) => Ahead::Call(Entry { target, caller }),
     }
 }
 
@@ -145,7 +134,8 @@ fn put_last(index: &mut [u32], at: usize, ahead: Ahead) -> usize
 }
 
 /// The caller's entries go, and a call goes in before the first greater entry, else last. Entries are moved once. How many there are now.
-pub fn update(index: &mut [u32], count: usize, caller: u32, callee: Callee) -> usize
+/// C lends the array and says how many of its entries are in use, so the two go side by side, here and below.
+pub fn update(index: &mut [u32], count: usize, caller: u32, callee: Option<u32>) -> usize
     requires count_in_bounds { 2 * count ≤ length index.old }
     requires count_in_bounds_2 { 2 * length (update_of caller callee (entries_of index.old count)) ≤ length index.old }
     ensures value { result ≡ length (update_of caller callee (entries_of index.old count)) }
@@ -155,51 +145,23 @@ pub fn update(index: &mut [u32], count: usize, caller: u32, callee: Callee) -> u
         at: 0,
         ahead: begin(caller, callee),
     };
-    let mut i = 0;
-    while i < count {
+    for i in 0..count {
         moving = turn(index, moving, caller, i);
-        i += 1;
     }
     let ahead = moving.ahead;
     put_last(index, moving.at, ahead) / 2
 }
 
-/// One for an entry that stays.
-fn stays(e: Entry, caller: u32) -> usize
-    ensures { result ≡ pick (eqb e.caller caller) 0 1 }
-{
-    if e.caller == caller { 0 } else { 1 }
-}
-
-/// One for a call.
-fn one(callee: Callee) -> usize
-    ensures { result ≡ one_of callee }
-{
-    match callee {
-        Callee::None => 0,
-        Callee::At(_) => 1,
-    }
-}
-
 /// How many entries there would be after an update.
-pub fn updated_len(index: &[u32], count: usize, caller: u32, callee: Callee) -> usize
+pub fn updated_len(index: &[u32], count: usize, caller: u32, callee: Option<u32>) -> usize
     requires { 2 * count ≤ length index.now }
     ensures { result ≡ length (update_of caller callee (entries_of index.now count)) }
 {
-    let mut n = one(callee);
-    let mut i = 0;
-    while i < count {
-        n += stays(entry_at(index, i), caller);
-        i += 1;
+    let mut n = usize::from(callee.is_some());
+    for i in 0..count {
+        n += usize::from(entry_at(index, i).caller != caller);
     }
     n
-}
-
-/// One for an entry with this target.
-fn hits(e: Entry, target: u32) -> usize
-    ensures { result ≡ pick (eqb e.target target) 1 0 }
-{
-    if e.target == target { 1 } else { 0 }
 }
 
 /// How many callers a target has.
@@ -208,10 +170,8 @@ fn callers_len(index: &[u32], count: usize, target: u32) -> usize
     ensures { result ≡ length (callers_of target (entries_of index.now count)) }
 {
     let mut n = 0;
-    let mut i = 0;
-    while i < count {
-        n += hits(entry_at(index, i), target);
-        i += 1;
+    for i in 0..count {
+        n += usize::from(entry_at(index, i).target == target);
     }
     n
 }
@@ -222,8 +182,7 @@ fn put_caller(out: &mut [u32], at: usize, e: Entry, target: u32) -> usize
     ensures { Put out.old at (callers_of target (e ∷ [])) result out.new }
 {
     if e.target == target {
-        out[at] = e.caller;
-        at + 1
+        put_one(out, at, e.caller)
     } else {
         at
     }
@@ -235,25 +194,23 @@ fn put_callers(out: &mut [u32], index: &[u32], count: usize, target: u32) -> usi
     ensures { Put out.old 0 (callers_of target (entries_of index.now count)) result out.new }
 {
     let mut at = 0;
-    let mut i = 0;
-    while i < count {
+    for i in 0..count {
         at = put_caller(out, at, entry_at(index, i), target);
-        i += 1;
     }
     at
 }
 
-/// Why an index of `count` entries cannot be lent so, or 0.
-pub fn lent_refusal(index: &[u32], count: usize) -> u8
-    ensures { result ≡ lent_refusal index.now count }
+/// Refuses an index of `count` entries that cannot be lent so.
+pub fn lent_refusal(index: &[u32], count: usize) -> Result<(), Refusal>
+    ensures { refused_with result ≡ lent_refusal index.now count }
 {
     if index.len() < NUMBERS {
-        return NO_ROOM;
+        return Err(Refusal::NoRoom);
     }
     if MOST < count {
-        return TOO_MANY_CALLS;
+        return Err(Refusal::TooManyCalls);
     }
-    0
+    Ok(())
 }
 
 /// Writes the callers of `target`, in the order of the index, to the start of `out`, once they are known to fit.
@@ -261,19 +218,10 @@ pub fn callers(index: &[u32], count: usize, target: u32, out: &mut [u32]) -> Wri
     ensures value { result ≡ found_of index.now count target out.old }
     ensures out_after { out.new ≡ left_of index.now count target out.old }
 {
-    let refusal = lent_refusal(index, count);
-    if refusal != 0 {
-        return Written { refusal, len: 0 };
-    }
+    lent_refusal(index, count)?;
     if callers_len(index, count, target) <= out.len() {
-        Written {
-            refusal: 0,
-            len: put_callers(out, index, count, target),
-        }
+        Ok(put_callers(out, index, count, target))
     } else {
-        Written {
-            refusal: NO_ROOM,
-            len: 0,
-        }
+        Err(Refusal::NoRoom)
     }
 }

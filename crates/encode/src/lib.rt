@@ -3,21 +3,17 @@
 #![tactic(auto)]
 
 ghost use Rattle.std.specs.Prelude.{◌≡◌};
-ghost use Rattle.encode.specs.Encode.{encode_of, home_answer, unencoded};
+ghost use Rattle.encode.specs.Encode.{encode_of, home_answer};
 
 use a32::decode;
 use encode_home::Filler;
 use encode_words::filled_word;
 use insn::Insn;
 use insn_same::same;
-use word::refusal::NO_WORD;
+use word::refusal::Refusal;
 
-/// What encoding gives: a word, or the number of a refusal and the word 0.
-#[derive(Clone, Copy)]
-pub struct Encoded {
-    pub refusal: u8,
-    pub word: u32,
-}
+/// What encoding gives: a word, or why there is none.
+pub type Encoded = Result<u32, Refusal>;
 
 /// The home word of an instruction value, with the bits that its row ignores as the manual draws them.
 pub fn encode(i: Insn) -> Encoded
@@ -31,18 +27,9 @@ pub fn encode_with(i: Insn, filler: Filler) -> Encoded
     ensures { result ≡ encode_of filler i }
 {
     let w = filled_word(i, filler);
-    let answer = decode(w, i.addr);
-    if answer.refusal == 0 {
-        if same(answer.insn, i) {
-            Encoded {
-                refusal: 0,
-                word: w,
-            }
-        } else {
-            refuse()
-        }
-    } else {
-        refuse()
+    match decode(w, i.addr) {
+        Ok(answer) if same(answer, i) => Ok(w),
+        _ => Err(Refusal::NoWord),
     }
 }
 
@@ -57,25 +44,6 @@ pub fn home(w: u32) -> Encoded
 pub fn home_with(w: u32, filler: Filler) -> Encoded
     ensures { result ≡ home_answer filler w }
 {
-    let answer = decode(w, 0);
-    if answer.refusal == 0 {
-        Encoded {
-            refusal: 0,
-            word: filled_word(answer.insn, filler),
-        }
-    } else {
-        Encoded {
-            refusal: answer.refusal,
-            word: 0,
-        }
-    }
-}
-
-fn refuse() -> Encoded
-    ensures { result ≡ unencoded }
-{
-    Encoded {
-        refusal: NO_WORD,
-        word: 0,
-    }
+    let answer = decode(w, 0)?;
+    Ok(filled_word(answer, filler))
 }

@@ -1,8 +1,5 @@
 -- A word or a part of one in 32 bits, by what was chosen for it. Assumes nothing.
-use mathlib.Core.Path.{◌≡◌, ap, sym, ◌∙◌}
-use mathlib.Core.Bool.{false}
-use Prim.Native.Nat.{ℕ, ◌%◌, ◌^◌}
-use lib.Dec.{eqb}
+use Rattle.std.proofs.Common.{◌≡◌, ap, sym, ◌∙◌, false, ℕ, ◌%◌, ◌^◌, eqb}
 use Rattle.insn_parts.specs.declared.Flat.{Flat}
 use Rattle.encode_home.specs.WordDp.{imm12, by_amount, by_register, source12}
 

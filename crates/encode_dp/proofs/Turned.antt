@@ -1,10 +1,6 @@
 -- Turning left in 64 bits loses nothing of 32, and the search for the least rotation goes on by one. Assumes nothing.
-use mathlib.Core.Path.{◌≡◌, ap, subst, ◌∙◌}
-use Prim.Native.Nat.{ℕ, suc, ◌+◌, ◌-◌, ◌*◌, ◌/◌, ◌%◌, ◌^◌, ◌<◌, ◌≤◌}
-use native.Mathlib.Nat.{one-mul, mod-eq_of_lt, mod-lt}
-use native.Mathlib.Omega.{arith}
-use borrow.Author.Tests.{lt-ltb, le-ltb}
-use lib.Pow.{pow-lt, pow_pos, shl_lt, shl_exact, shr-shr, shr_le}
+use Rattle.std.proofs.Common.{◌≡◌, ap, subst, ◌∙◌, ℕ, suc, ◌+◌, ◌-◌, ◌*◌, ◌/◌, ◌%◌, ◌^◌, ◌<◌, ◌≤◌, one-mul, mod-eq_of_lt, mod-lt, arith, lt-ltb, le-ltb, pow_pos, shl_lt, shl_exact, shr-shr}
+use Rattle.std.proofs.Math.Pow.{pow-lt, shr_le}
 use Rattle.a32_imm.specs.Imm.{turned_left, least_from}
 
 pub one_shifted : (k : ℕ) → k < 64 → (1 * 2 ^ k) % 2 ^ 64 ≡ 2 ^ k

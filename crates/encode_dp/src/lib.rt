@@ -34,18 +34,13 @@ fn operation(n: u16) -> u64
 fn setting(n: u16) -> u64
     ensures { result ≡ W.setting n }
 {
-    if n < 8 {
-        0
-    } else {
-        if n < 12 {
-            1
-        } else {
-            if n < 16 { 0 } else { 1 }
-        }
+    match n {
+        0..=7 | 12..=15 => 0,
+        _ => 1,
     }
 }
 
-/// 32 bits turned left by `n` places.
+/// 32 bits turned left by `n` places, in 64 as the numbers of an operand are, which may be wider.
 fn turned_left(v: u64, n: u64) -> u64
     requires { n ≤ 30 }
     ensures { result ≡ turned_left v n }
@@ -58,13 +53,11 @@ fn turned_left(v: u64, n: u64) -> u64
 fn least(v: u64) -> u64
     ensures { result ≡ least_from 16 0 v }
 {
-    let mut r: u64 = 0;
-    while r < 16 {
+    for r in 0..16 {
         let byte = turned_left(v, 2 * r);
         if byte < 256 {
             return 256 * r + byte;
         }
-        r += 1;
     }
     0
 }
@@ -77,11 +70,12 @@ fn pair(rotation: u64, byte: u64) -> u32
 }
 
 /// The immediate of one count or two.
+#[tactic(auto, unfolding(encode_home::specs::WordDp::imm12))]
 fn imm12(value: Flat, turn: Flat) -> u64
     ensures { result ≡ W.imm12 value turn % 2 ^ 32 }
 {
     if turn.kind == COUNT {
-        pair(number(turn) / 2, number(value)) as u64
+        u64::from(pair(number(turn) / 2, number(value)))
     } else {
         least(number(value)) % 0x1_0000_0000
     }
@@ -106,6 +100,7 @@ fn by_register(rm: u64, ty: u64, rs: u64) -> u32
 }
 
 /// 11:0 of a source that takes one operand or two.
+#[tactic(auto, unfolding(encode_home::specs::WordDp::source12))]
 fn source12(source: Flat, by: Flat) -> u64
     ensures { result ≡ W.source12 source by % 2 ^ 32 }
 {
@@ -113,13 +108,13 @@ fn source12(source: Flat, by: Flat) -> u64
         return imm12(source, by);
     }
     if by.kind == SHIFT_BY {
-        by_register(source.reg as u64, by.how as u64, by.reg as u64) as u64
+        u64::from(by_register(source.reg.into(), by.how.into(), by.reg.into()))
     } else {
-        by_amount(
-            source.reg as u64,
-            source.how as u64,
-            (source.amount % 32) as u64,
-        ) as u64
+        u64::from(by_amount(
+            source.reg.into(),
+            source.how.into(),
+            (source.amount % 32).into(),
+        ))
     }
 }
 
@@ -127,7 +122,7 @@ fn source12(source: Flat, by: Flat) -> u64
 fn immediate(source: Flat) -> u64
     ensures { result ≡ W.immediate source }
 {
-    if source.kind == COUNT { 1 } else { 0 }
+    u64::from(source.kind == COUNT)
 }
 
 /// 11:0 rd rn s op 00i cond, from bit 0 up.
@@ -149,16 +144,7 @@ fn sourced(i: Insn, rd: u64, rn: u64, op: u64, s: u64, source: Flat, by: Flat) -
 fn is_indirect(flow: Flow) -> bool
     ensures { result ≡ W.is_indirect flow }
 {
-    match flow {
-        Flow::Next => false,
-        Flow::Branch(_) => false,
-        Flow::CondBranch(_) => false,
-        Flow::IndirectBranch => true,
-        Flow::Call(_) => false,
-        Flow::IndirectCall => false,
-        Flow::Return => false,
-        Flow::Trap => false,
-    }
+    flow == Flow::IndirectBranch
 }
 
 /// Rd of a compare: one with Rd 15 is one that branches.
@@ -171,18 +157,17 @@ fn compared(flow: Flow) -> u64
 fn is_compare(op: u64) -> bool
     ensures { result ≡ both (leb 8 op) (leb op 11) }
 {
-    if 8 <= op { op <= 11 } else { false }
+    8 <= op && op <= 11
 }
 
 /// Mov and mvn have no Rn.
 fn operation_word(i: Insn, op: u64, s: u64) -> u32
     ensures { result ≡ W.operation_word i op s % 2 ^ 32 }
 {
-    let flow = i.flow;
     if is_compare(op) {
         return sourced(
             i,
-            compared(flow),
+            compared(i.flow),
             register_at(i, 0),
             op,
             s,
@@ -191,8 +176,7 @@ fn operation_word(i: Insn, op: u64, s: u64) -> u32
         );
     }
     match op {
-        13 => sourced(i, register_at(i, 0), 0, op, s, at(i, 1), at(i, 2)),
-        15 => sourced(i, register_at(i, 0), 0, op, s, at(i, 1), at(i, 2)),
+        13 | 15 => sourced(i, register_at(i, 0), 0, op, s, at(i, 1), at(i, 2)),
         _ => sourced(
             i,
             register_at(i, 0),
@@ -206,13 +190,14 @@ fn operation_word(i: Insn, op: u64, s: u64) -> u32
 }
 
 /// 11:0 of Rm shifted by a count, by a register, or through the carry.
+#[tactic(auto, unfolding(encode_home::specs::WordDp::shift12))]
 fn shift12(rm: u64, ty: u64, by: Flat) -> u64
     ensures { result ≡ W.shift12 rm ty by % 2 ^ 32 }
 {
     if by.kind == REGISTER {
-        by_register(rm, ty, by.reg as u64) as u64
+        u64::from(by_register(rm, ty, by.reg.into()))
     } else {
-        by_amount(rm, ty, number(by) % 32) as u64
+        u64::from(by_amount(rm, ty, number(by) % 32))
     }
 }
 
@@ -236,19 +221,12 @@ pub fn dp_word(i: Insn) -> u32
     ensures { result ≡ W.dp_word i % 2 ^ 32 }
 {
     let n = i.name;
-    if n < name::LSL {
-        return operation_word(i, operation(n), setting(n));
-    }
-    if n < name::LSLS {
-        return shift_word(i, (n - name::LSL) as u64, 0);
-    }
-    if n < name::RRXS {
-        return shift_word(i, (n - name::LSLS) as u64, 1);
-    }
-    if n == name::RRXS {
-        shift_word(i, 3, 1)
-    } else {
-        shift_word(i, 3, 0)
+    match n {
+        name::AND..=name::MVNS => operation_word(i, operation(n), setting(n)),
+        name::LSL..=name::ROR => shift_word(i, past(n, name::LSL), 0),
+        name::LSLS..=name::RORS => shift_word(i, past(n, name::LSLS), 1),
+        name::RRXS => shift_word(i, 3, 1),
+        _ => shift_word(i, 3, 0),
     }
 }
 

@@ -1,6 +1,6 @@
 -- No second result fits a contract. Each line is about the contract itself, as the check reads it from the source.
 -- Assumes nothing.
-use mathlib.Core.Path.{◌∙◌, sym}
+use Rattle.std.proofs.Common.{◌∙◌, sym}
 use Rattle.word.specs.Only.{Only}
 use Rattle.encode_groups.proofs.coproc.coproc_word.Reads as coproc_word
 use Rattle.encode_groups.proofs.extra.extra_word.Reads as extra_word

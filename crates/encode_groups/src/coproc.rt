@@ -12,7 +12,7 @@ use word::join;
 fn reads(n: u16, load: u16) -> u64
     ensures { result ≡ pick (eqb n load) 1 0 }
 {
-    if n == load { 1 } else { 0 }
+    u64::from(n == load)
 }
 
 /// crm 1 opc2 coprocessor rt crn L opc1 1110 cond, from bit 0 up.
@@ -88,7 +88,7 @@ fn pair_word(i: Insn) -> u32
 fn load_bit(n: u16) -> u64
     ensures { result ≡ W.load_bit n }
 {
-    if past(n, name::LDC) / 2 == 0 { 1 } else { 0 }
+    u64::from(past(n, name::LDC) / 2 == 0)
 }
 
 /// D.
@@ -102,7 +102,7 @@ fn long_bit(n: u16) -> u64
 fn write_bit(mode: u8) -> u64
     ensures { result ≡ W.write_bit mode }
 {
-    if mode == 0 { 0 } else { 1 }
+    u64::from(mode != 0)
 }
 
 /// words of displacement, coprocessor crd rn L W D U P 110 cond, from bit 0 up.
@@ -119,7 +119,7 @@ fn laid_transfer(i: Insn, f: Flat) -> u32
             f.value / 4,
             amount_at(i, 0),
             amount_at(i, 1),
-            f.reg as u64,
+            f.reg.into(),
             load_bit(n),
             write_bit(f.mode),
             long_bit(n),
@@ -136,13 +136,12 @@ pub fn coproc_word(i: Insn) -> u32
 {
     let n = i.name;
     if n <= name::MCR {
-        return move_word(i);
+        move_word(i)
+    } else if n <= name::CDP {
+        operation_word(i)
+    } else if n <= name::MCRR {
+        pair_word(i)
+    } else {
+        laid_transfer(i, at(i, 2))
     }
-    if n <= name::CDP {
-        return operation_word(i);
-    }
-    if n <= name::MCRR {
-        return pair_word(i);
-    }
-    laid_transfer(i, at(i, 2))
 }

@@ -12,7 +12,7 @@ use word::join;
 fn bit_i(f: Flat) -> u64
     ensures { result ≡ W.bit_i f }
 {
-    if f.how == 0 { 1 } else { 0 }
+    u64::from(f.how == 0)
 }
 
 /// 3:0: the index, or the displacement's low digit.
@@ -22,7 +22,7 @@ fn low_of(f: Flat) -> u64
     if f.how == 0 {
         f.value % 16
     } else {
-        f.index as u64
+        f.index.into()
     }
 }
 
@@ -49,7 +49,7 @@ fn transfer(i: Insn, rd: u64, kind: u64, l: u64, f: Flat) -> u32
             1,
             high_of(f),
             rd,
-            f.reg as u64,
+            f.reg.into(),
             l,
             bit_w(f.mode),
             bit_i(f),
@@ -61,33 +61,12 @@ fn transfer(i: Insn, rd: u64, kind: u64, l: u64, f: Flat) -> u32
     )
 }
 
-/// The memory form stands at place 1.
-fn single(i: Insn, kind: u64, l: u64) -> u32
-    ensures { result ≡ W.single i kind l % 2 ^ 32 }
-{
-    transfer(i, register_at(i, 0), kind, l, at(i, 1))
-}
-
-/// Beside a pair it stands at place 2.
-fn pair(i: Insn, kind: u64, l: u64) -> u32
-    ensures { result ≡ W.pair i kind l % 2 ^ 32 }
-{
-    transfer(i, register_at(i, 0), kind, l, at(i, 2))
-}
-
-/// The pairs, ldrd and strd, have L clear.
+/// The memory form stands at place 1, and at place 2 beside a pair. The pairs, ldrd and strd, have L clear.
 fn kinded(i: Insn, kind: u64, l: u64) -> u32
     ensures { result ≡ W.kinded i kind l % 2 ^ 32 }
 {
-    if 2 <= kind {
-        if l == 0 {
-            pair(i, kind, l)
-        } else {
-            single(i, kind, l)
-        }
-    } else {
-        single(i, kind, l)
-    }
+    let place = if 2 <= kind && l == 0 { 2 } else { 1 };
+    transfer(i, register_at(i, 0), kind, l, at(i, place))
 }
 
 /// Strh, ldrh, ldrd, ldrsb, strd, ldrsh: by kind, and L.
@@ -104,11 +83,9 @@ pub fn extra_word(i: Insn) -> u32
     let n = i.name;
     if n <= name::SMLALS {
         multiply_word(i)
+    } else if n <= name::LDREXH {
+        sync_word(i)
     } else {
-        if n <= name::LDREXH {
-            sync_word(i)
-        } else {
-            transfer_word(i)
-        }
+        transfer_word(i)
     }
 }

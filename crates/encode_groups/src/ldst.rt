@@ -29,6 +29,7 @@ fn user_bit(n: u16) -> u64
 }
 
 /// W, by the mode or the name.
+#[tactic(auto, unfolding(encode_home::specs::WordLdst::write_bit))]
 fn write_bit(mode: u8, n: u16) -> u64
     ensures { result ≡ W.write_bit mode n }
 {
@@ -39,17 +40,19 @@ fn write_bit(mode: u8, n: u16) -> u64
 const INDEX: [u64; 4] = [4, 1, 2, 5];
 
 /// 11:0: the displacement, or the index with its shift.
+#[tactic(auto, unfolding(encode_home::specs::WordLdst::offset12))]
 fn offset12(f: Flat) -> u64
     ensures { result ≡ W.offset12 f % 2 ^ 32 }
 {
     if f.how == 0 {
         f.value % 0x1_0000_0000
     } else {
-        join(&INDEX, &[f.index as u64, 0, 0, f.amount as u64]) as u64
+        u64::from(join(&INDEX, &[f.index.into(), 0, 0, f.amount.into()]))
     }
 }
 
 /// U: an index is added.
+#[tactic(auto, unfolding(encode_home::specs::WordLdst::added_bit))]
 fn added_bit(f: Flat) -> u64
     ensures { result ≡ W.added_bit f }
 {
@@ -68,13 +71,13 @@ fn laid(i: Insn, f: Flat) -> u32
         &[
             offset12(f),
             register_at(i, 0),
-            f.reg as u64,
+            f.reg.into(),
             load_bit(n),
             write_bit(f.mode, n),
             byte_bit(n),
             added_bit(f),
             bit_p(f.mode),
-            f.how as u64,
+            f.how.into(),
             1,
             cond(i),
         ],

@@ -20,7 +20,7 @@ fn udf_word(i: Insn) -> u32
 fn less(n: u64) -> u64
     ensures { result ≡ n - 1 }
 {
-    if n == 0 { 0 } else { n - 1 }
+    n.saturating_sub(1)
 }
 
 /// rm 1 6:5 lsb rd 20:16 24:21 011 cond, from bit 0 up.
@@ -195,6 +195,7 @@ fn moved(i: Insn) -> u32
     }
 }
 
+#[tactic(auto, unfolding(encode_home::specs::WordMedia::laid_as))]
 pub fn media_word(i: Insn) -> u32
     ensures { result ≡ W.media_word i % 2 ^ 32 }
 {

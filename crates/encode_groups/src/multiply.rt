@@ -1,5 +1,7 @@
 //! The word of a multiply, a halfword multiply or an exclusive, from its answer.
-ghost use Rattle.std.specs.Prelude.{◌≡◌, ◌%◌, ◌^◌};
+ghost use Rattle.std.specs.Prelude.{◌≡◌, ℕ, ◌%◌, ◌^◌, ◌<◌, get_or};
+ghost use Rattle.insn.specs.Answer.{PLACES};
+ghost use Rattle.insn_parts.specs.Parts as P;
 ghost use Rattle.encode_home.specs.WordMultiply as W;
 
 use insn::{Insn, name};
@@ -19,33 +21,25 @@ fn laid(i: Insn, low: u64, op: u64, p: u64, rm: u64, rs: u64, rd: u64, rn: u64) 
 /// 7:4 of the multiplies and the exclusives.
 const LOW: u64 = 0b1001;
 
-fn short(i: Insn, low: u64, op: u64, p: u64) -> u32
-    ensures { result ≡ W.short i low op p % 2 ^ 32 }
-{
-    laid(
-        i,
-        low,
-        op,
-        p,
-        register_at(i, 1),
-        register_at(i, 2),
-        register_at(i, 3),
-        register_at(i, 0),
-    )
-}
+/// The places of the registers at 3:0, 11:8, 15:12 and 19:16: the result is the first operand, and the first two in the long ones.
+const SHORT: [usize; 4] = [1, 2, 3, 0];
 
-fn long(i: Insn, low: u64, op: u64, p: u64) -> u32
-    ensures { result ≡ W.long i low op p % 2 ^ 32 }
+const LONG: [usize; 4] = [2, 3, 0, 1];
+
+/// A product, by the places of its registers.
+fn placed(i: Insn, low: u64, op: u64, p: u64, places: [usize; 4]) -> u32
+    requires { (get_or places 0 0 < PLACES) × (get_or places 1 0 < PLACES) × (get_or places 2 0 < PLACES) × (get_or places 3 0 < PLACES) }
+    ensures { let reg : ℕ → ℕ = λ n. (P.at i (get_or places n 0)).reg in result ≡ W.laid i low op p (reg 0) (reg 1) (reg 2) (reg 3) % 2 ^ 32 }
 {
     laid(
         i,
         low,
         op,
         p,
-        register_at(i, 2),
-        register_at(i, 3),
-        register_at(i, 0),
-        register_at(i, 1),
+        register_at(i, places[0]),
+        register_at(i, places[1]),
+        register_at(i, places[2]),
+        register_at(i, places[3]),
     )
 }
 
@@ -56,16 +50,16 @@ const OPERATIONS: [u64; 14] = [1, 0, 3, 2, 4, 6, 8, 9, 10, 11, 12, 13, 14, 15];
 fn is_long(op: u64) -> bool
     ensures { result ≡ W.is_long op }
 {
-    if op == 4 { true } else { 8 <= op }
+    op == 4 || 8 <= op
 }
 
 fn multiplied(i: Insn, op: u64) -> u32
     ensures { result ≡ W.multiplied i op % 2 ^ 32 }
 {
     if is_long(op) {
-        long(i, LOW, op, 0)
+        placed(i, LOW, op, 0, LONG)
     } else {
-        short(i, LOW, op, 0)
+        placed(i, LOW, op, 0, SHORT)
     }
 }
 
@@ -88,9 +82,9 @@ fn halved(i: Insn, n: u64) -> u32
 {
     let op = n / 4;
     if op == 0b10 {
-        long(i, halves(n), op * 2, 1)
+        placed(i, halves(n), op * 2, 1, LONG)
     } else {
-        short(i, halves(n), op * 2, 1)
+        placed(i, halves(n), op * 2, 1, SHORT)
     }
 }
 

@@ -1,5 +1,6 @@
 -- The halfword multiplies: an answer leads back to its home word, which has it too. Assumes nothing.
 use mathlib.Core.Path.{◌≡◌, refl}
+use Rattle.insn.specs.Answer.{insn_in}
 use mathlib.Core.Bool.{true, false}
 use mathlib.Core.List.{[], ◌∷◌}
 use Prim.Native.Nat.{ℕ, ◌+◌, ◌-◌, ◌*◌, ◌/◌, ◌%◌, ◌^◌, ◌<◌, ◌≤◌}
@@ -87,14 +88,14 @@ module _ (w : ℕ) (bound : w < 2 ^ 32) (group : field w 25 3 ≡ 0) (ten : fiel
     )
 
     product : eqb (field w 21 2) 2 ≡ false → leb 133 n ≡ true → leb n 148 ≡ true
-        → (addr : ℕ) → puts_of (product_of w addr n).insn ≡ zeros 15 12 ∷ [] → Back (zeros 15 12 ∷ []) w (product_of w addr n)
+        → (addr : ℕ) → puts_of (insn_in (product_of w addr n)) ≡ zeros 15 12 ∷ [] → Back (zeros 15 12 ∷ []) w (product_of w addr n)
     product short l h addr puts = unfold word_of in
         (refl, puts, simp (over 133 148 n l h, ends 133 148 n l h, past, op_back, low_back, short) whole_home)
 
-  smulw_puts : (n addr : ℕ) → leb 139 n ≡ true → leb n 140 ≡ true → puts_of (product_of w addr n).insn ≡ zeros 15 12 ∷ []
+  smulw_puts : (n addr : ℕ) → leb 139 n ≡ true → leb n 140 ≡ true → puts_of (insn_in (product_of w addr n)) ≡ zeros 15 12 ∷ []
   smulw_puts n addr l h = unfold puts_of in simp (starts 139 140 n l h, ends 139 140 n l h, over 139 140 n l h, under 139 140 n l h)
 
-  smul_puts : (n addr : ℕ) → leb 145 n ≡ true → leb n 148 ≡ true → puts_of (product_of w addr n).insn ≡ zeros 15 12 ∷ []
+  smul_puts : (n addr : ℕ) → leb 145 n ≡ true → leb n 148 ≡ true → puts_of (insn_in (product_of w addr n)) ≡ zeros 15 12 ∷ []
   smul_puts n addr l h = unfold puts_of in simp (starts 145 148 n l h, ends 145 148 n l h, over 145 148 n l h, under 145 148 n l h)
 
   -- a name from an end on, by its halves or its half

@@ -13,7 +13,7 @@ use Rattle.word.specs.Layout.{join, whole, upper, lower}
 use Rattle.insn.specs.Answer.{insn_of, places, accepted}
 use Rattle.insn.specs.Roots.{name}
 use Rattle.insn.specs.declared.Cond.{Cond}
-use Rattle.insn.specs.declared.Decoded.{Decoded}
+use Rattle.insn.specs.Answer.{Decoded}
 use Rattle.insn.specs.declared.Flow.TheVariants.{Next}
 use Rattle.insn.specs.declared.Insn.{Insn}
 use Rattle.insn.specs.declared.Operand.{Operand}

@@ -1,5 +1,6 @@
 -- What is shown of each group of rows, and how its proofs go by cases. Assumes nothing.
 use mathlib.Core.Path.{◌≡◌, refl, ap, sym, ◌∙◌, subst}
+use Rattle.word.specs.Refusal.{refused_with}
 use mathlib.Core.Bool.{Bool, true, false}
 use mathlib.Core.List.{List, []}
 use Prim.Native.Nat.compare
@@ -13,7 +14,7 @@ use Rattle.word.specs.Choice.{pick, both, by_test}
 use Rattle.word.specs.Every.{left}
 use Rattle.word.specs.Field.{field, small, put_above, put_below, put_at}
 use Rattle.word.specs.Signed.{minus}
-use Rattle.insn.specs.declared.Decoded.{Decoded}
+use Rattle.insn.specs.Answer.{Decoded, insn_in}
 use Rattle.a32_ldst.specs.Mem.{disp_of}
 use Rattle.insn_parts.specs.Operands.{sign_number}
 use Rattle.insn_parts.specs.Parts.{up}
@@ -34,11 +35,11 @@ pub ruleset apart = (put_above, put_below, put_at, drawn_fits)
 
 -- an accepted answer of w: these are its puts, and it leads back to w with them put in
 abbrev pub Back : List Put → ℕ → Decoded → Type 0
-Back ps w d = (d.refusal ≡ 0) × (puts_of d.insn ≡ ps) × (word_of d.insn ≡ put_all Zeros ps w)
+Back ps w d = (refused_with d ≡ 0) × (puts_of (insn_in d) ≡ ps) × (word_of (insn_in d) ≡ put_all Zeros ps w)
 
 -- a word of a group is refused at every address; or it is accepted at every address, and with its puts, which are near, it has the same answer
 pub data Settles (near : Put → Bool) (of : ℕ → ℕ → Decoded) (w : ℕ) : Type 0 where
-  refuses : ((addr : ℕ) → (of w addr).refusal ≡ 0 → ⊥) → Settles near of w
+  refuses : ((addr : ℕ) → refused_with (of w addr) ≡ 0 → ⊥) → Settles near of w
   settles : (ps : List Put) → T (both (all near ps) (disjoint ps))
       → ((addr : ℕ) → ((c : Filler) → of (put_all c ps w) addr ≡ of w addr) × Back ps w (of w addr))
       → Settles near of w
@@ -58,7 +59,7 @@ leads_by {w = w} of' ps t to from given =
 -- with whatever puts are near
 pub leads_to : {near : Put → Bool} {of of' : ℕ → ℕ → Decoded} {w : ℕ} → Settles near of' w
     → ((c : Filler) (ps : List Put) → T (all near ps) → (addr : ℕ) → of (put_all c ps w) addr ≡ of' (put_all c ps w) addr) → Settles near of w
-leads_to (refuses never-ok) to = refuses (λ addr ok. never-ok addr (subst (λ (d : Decoded). d.refusal ≡ 0) (to Zeros [] tt addr) ok))
+leads_to (refuses never-ok) to = refuses (λ addr ok. never-ok addr (subst (λ (d : Decoded). refused_with d ≡ 0) (to Zeros [] tt addr) ok))
 leads_to {near = near} {of' = of'} (settles ps t given) to =
     leads_by of' ps t (λ c. to c ps (left (all near ps) (disjoint ps) t)) (to Zeros [] tt) given
 

@@ -1,6 +1,7 @@
 -- Demand 3: a home word has its word's answer, an answer leads back to its home word, and so two words have one answer
 -- exactly if they have one home word. Assumes nothing.
 use mathlib.Core.Path.{◌≡◌, refl, sym, ap, ◌∙◌, subst}
+use Rattle.word.specs.Refusal.{refused_with}
 use mathlib.Core.Bool.{Bool, true, false}
 use mathlib.Core.List.{List, []}
 use mathlib.Core.Logic.{◌↔◌}
@@ -11,8 +12,8 @@ use lib.Dec.{T, eqb}
 use Rattle.word.specs.Choice.{tested, parts}
 use Rattle.word.specs.Every.{right}
 use Rattle.word.specs.Field.{field, small, splits}
-use Rattle.insn.specs.Answer.{accepted}
-use Rattle.insn.specs.declared.Decoded.{Decoded}
+use Rattle.insn.specs.Answer.{accepted, insn_in}
+use Rattle.insn.specs.Answer.{Decoded}
 use Rattle.insn.specs.declared.Insn.{Insn}
 use Rattle.a32_multiply.specs.Halfword.{halfword_of}
 use Rattle.a32.specs.Decode.{decode_of, group_of, dp_misc_of, plain_of, extra_of, control_of}
@@ -44,12 +45,12 @@ module _ (w : ℕ) (bound : w < 2 ^ 32) where
   Settled =
       (addr : ℕ)
       → ((c : Filler) → decode_of (home_of c w) addr ≡ decode_of w addr)
-      × ((decode_of w addr).refusal ≡ 0 → (c : Filler) → filled_word c (decode_of w addr).insn ≡ home_of c w)
+      × (refused_with (decode_of w addr) ≡ 0 → (c : Filler) → filled_word c (insn_in (decode_of w addr)) ≡ home_of c w)
 
-  refused_home : ((decode_of w 0).refusal ≡ 0 → ⊥) → (c : Filler) → home_of c w ≡ w
-  refused_home not c = unfold home_of in simp (ne_eqb (decode_of w 0).refusal 0 not)
+  refused_home : (refused_with (decode_of w 0) ≡ 0 → ⊥) → (c : Filler) → home_of c w ≡ w
+  refused_home not c = unfold home_of in simp (ne_eqb (refused_with (decode_of w 0)) 0 not)
 
-  accepted_home : (ps : List Put) → (decode_of w 0).refusal ≡ 0 → puts_of (decode_of w 0).insn ≡ ps → (c : Filler) → home_of c w ≡ put_all c ps w
+  accepted_home : (ps : List Put) → refused_with (decode_of w 0) ≡ 0 → puts_of (insn_in (decode_of w 0)) ≡ ps → (c : Filler) → home_of c w ≡ put_all c ps w
   accepted_home ps ok is c = unfold home_of in simp ok (ap (λ (qs : List Put). put_all c qs w) is)
 
   settle : {near : Put → Bool} → Settles near decode_of w → Settled
@@ -59,7 +60,7 @@ module _ (w : ℕ) (bound : w < 2 ^ 32) where
       (λ c. ap (λ (x : ℕ). decode_of x addr) (home c) ∙ (given addr).0 c, λ ok c. led c ∙ sym (home c))
     where
       i : Insn
-      i = (decode_of w addr).insn
+      i = insn_in (decode_of w addr)
 
       led : (c : Filler) → filled_word c i ≡ put_all c ps w
       led Manual =
@@ -79,10 +80,10 @@ module _ (w : ℕ) (c : eqb (field w 28 4) 15 ≡ false) (g : field w 25 3 ≡ 0
 
 -- 02, P3: "Refusals: none remain in this corner"
 pub halfword_accepted : (w addr : ℕ) → eqb (field w 28 4) 15 ≡ false → field w 25 3 ≡ 0 → control_of w ≡ true → field w 4 1 ≡ 0 → field w 7 1 ≡ 1
-    → (decode_of w addr).refusal ≡ 0
-halfword_accepted w addr c g control four seven = ap (λ (d : Decoded). d.refusal) (to_halfword w c g control four seven Zeros [] tt addr) ∙ accepted
+    → refused_with (decode_of w addr) ≡ 0
+halfword_accepted w addr c g control four seven = ap (λ (d : Decoded). refused_with d) (to_halfword w c g control four seven Zeros [] tt addr) ∙ accepted
   where
-    accepted : (halfword_of w addr).refusal ≡ 0
+    accepted : refused_with (halfword_of w addr) ≡ 0
     accepted =
         two_cases w 21
         (λ op. simp op)
@@ -195,17 +196,17 @@ pub home_decodes : (c : Filler) (w addr : ℕ) → w < 2 ^ 32 → decode_of (hom
 home_decodes c w addr bound = (settled w bound addr).0 c
 
 -- an accepted answer leads back to the home word
-pub leads_home : (c : Filler) (w addr : ℕ) → w < 2 ^ 32 → (decode_of w addr).refusal ≡ 0 → filled_word c (decode_of w addr).insn ≡ home_of c w
+pub leads_home : (c : Filler) (w addr : ℕ) → w < 2 ^ 32 → refused_with (decode_of w addr) ≡ 0 → filled_word c (insn_in (decode_of w addr)) ≡ home_of c w
 leads_home c w addr bound ok = (settled w bound addr).1 ok c
 
 module _ (c : Filler) where
   -- "At one address two accepted words get equal answers exactly when 01's table of ignored bits gives them the same home word."
-  pub same_answer : (w w' addr : ℕ) → w < 2 ^ 32 → w' < 2 ^ 32 → (decode_of w addr).refusal ≡ 0 → (decode_of w' addr).refusal ≡ 0
+  pub same_answer : (w w' addr : ℕ) → w < 2 ^ 32 → w' < 2 ^ 32 → refused_with (decode_of w addr) ≡ 0 → refused_with (decode_of w' addr) ≡ 0
       → (decode_of w addr ≡ decode_of w' addr) ↔ (home_of c w ≡ home_of c w')
   same_answer w w' addr bound bound' ok ok' = (one_home, one_answer)
     where
       one_home : decode_of w addr ≡ decode_of w' addr → home_of c w ≡ home_of c w'
-      one_home same = sym (leads_home c w addr bound ok) ∙ ap (λ (d : Decoded). filled_word c d.insn) same ∙ leads_home c w' addr bound' ok'
+      one_home same = sym (leads_home c w addr bound ok) ∙ ap (λ (d : Decoded). filled_word c (insn_in d)) same ∙ leads_home c w' addr bound' ok'
 
       one_answer : home_of c w ≡ home_of c w' → decode_of w addr ≡ decode_of w' addr
       one_answer same = sym (home_decodes c w addr bound) ∙ ap (λ (x : ℕ). decode_of x addr) same ∙ home_decodes c w' addr bound'
@@ -213,15 +214,15 @@ module _ (c : Filler) where
   -- a home word is a word
   pub home_small : (w : ℕ) → w < 2 ^ 32 → home_of c w < 2 ^ 32
   home_small w bound = unfold home_of in
-      tested (λ (x : ℕ). x < 2 ^ 32) (eqb (decode_of w 0).refusal 0)
-      (λ ok. put_all_small c (puts_of (decode_of w 0).insn) (all_good (decode_of w 0).insn) bound)
+      tested (λ (x : ℕ). x < 2 ^ 32) (eqb (refused_with (decode_of w 0)) 0)
+      (λ ok. put_all_small c (puts_of (insn_in (decode_of w 0))) (all_good (insn_in (decode_of w 0))) bound)
       (λ no_row. bound)
 
   -- and has its word's condition
   pub home_condition : (w : ℕ) → field (home_of c w) 28 4 ≡ field w 28 4
   home_condition w = unfold home_of in
-      tested (λ (x : ℕ). field x 28 4 ≡ field w 28 4) (eqb (decode_of w 0).refusal 0)
-      (λ ok. keeps_condition c (puts_of (decode_of w 0).insn) (all_good (decode_of w 0).insn) w)
+      tested (λ (x : ℕ). field x 28 4 ≡ field w 28 4) (eqb (refused_with (decode_of w 0)) 0)
+      (λ ok. keeps_condition c (puts_of (insn_in (decode_of w 0))) (all_good (insn_in (decode_of w 0))) w)
       (λ no_row. refl)
 
   -- where any word has an instruction value for its answer at the value's address, the word that the value leads to has it,
@@ -232,13 +233,13 @@ module _ (c : Filler) where
       (back, ap (λ (x : ℕ). decode_of x i.addr) back ∙ home_decodes c w i.addr bound ∙ is)
     where
       back : filled_word c i ≡ home_of c w
-      back = ap (λ (d : Decoded). filled_word c d.insn) (sym is) ∙ leads_home c w i.addr bound (ap (λ (d : Decoded). d.refusal) is)
+      back = ap (λ (d : Decoded). filled_word c (insn_in d)) (sym is) ∙ leads_home c w i.addr bound (ap (λ (d : Decoded). refused_with d) is)
 
 -- The home of a home word is the word's own, whatever filled that: so a home word is its own home, and of a word's two each is the other's home
 -- under its own filler
-pub home_home : (c c' : Filler) (w addr : ℕ) → w < 2 ^ 32 → (decode_of w addr).refusal ≡ 0 → home_of c (home_of c' w) ≡ home_of c w
+pub home_home : (c c' : Filler) (w addr : ℕ) → w < 2 ^ 32 → refused_with (decode_of w addr) ≡ 0 → home_of c (home_of c' w) ≡ home_of c w
 home_home c c' w addr bound ok =
-    (same_answer c (home_of c' w) w addr (home_small c' w bound) bound (subst (λ (d : Decoded). d.refusal ≡ 0) (sym (home_decodes c' w addr bound)) ok) ok
+    (same_answer c (home_of c' w) w addr (home_small c' w bound) bound (subst (λ (d : Decoded). refused_with d ≡ 0) (sym (home_decodes c' w addr bound)) ok) ok
     ).0 (home_decodes c' w addr bound)
 
 -- and the two decode alike

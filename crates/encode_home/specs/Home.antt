@@ -1,8 +1,9 @@
 -- The home word of a word (01, "Home words").
 use Rattle.std.specs.Prelude.{Bool, true, false, List, [], ◌∷◌, ◌++◌, ℕ, eqb}
+use Rattle.word.specs.Refusal.{refused_with}
 use Rattle.word.specs.Choice.{pick}
 use Rattle.word.specs.Field.{put}
-use Rattle.insn.specs.declared.Decoded.{Decoded}
+use Rattle.insn.specs.Answer.{Decoded, insn_in}
 use Rattle.insn.specs.declared.Insn.{Insn}
 use Rattle.a32.specs.Decode.{decode_of}
 use Rattle.encode_home.specs.declared.Filler.{Filler}
@@ -25,7 +26,7 @@ put_all c (p ∷ ps) w = put_all c ps (put w p.lo p.width (value c p))
 
 -- a word that is refused is its own home word
 abbrev pub home_by : Filler → Decoded → ℕ → ℕ
-home_by c d w = pick (eqb d.refusal 0) (put_all c (puts_of d.insn) w) w
+home_by c d w = pick (eqb (refused_with d) 0) (put_all c (puts_of (insn_in d)) w) w
 
 -- no entry looks at an answer's address, or at where it branches to, so any address would do
 unfoldable pub home_of : Filler → ℕ → ℕ

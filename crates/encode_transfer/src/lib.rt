@@ -25,7 +25,7 @@ fn laid_block(i: Insn, list: u64, rn: u64, l: u64, wb: u64, kind: u64) -> u32
 fn written_back(i: Insn) -> u64
     ensures { result ≡ pick (P.is_write_back (P.at i 0)) 1 0 }
 {
-    if is_at(i, 0, WRITE_BACK) { 1 } else { 0 }
+    u64::from(is_at(i, 0, WRITE_BACK))
 }
 
 /// The base at place 0, the list at place 1.
@@ -46,11 +46,7 @@ fn multiple(i: Insn, l: u64, kind: u64) -> u32
 fn plain_block(i: Insn, n: u64) -> u32
     ensures { result ≡ W.plain_block i n % 2 ^ 32 }
 {
-    if n < 4 {
-        multiple(i, 1, n % 4)
-    } else {
-        multiple(i, 0, n % 4)
-    }
+    multiple(i, u64::from(n < 4), n % 4)
 }
 
 /// Pop and push name the list alone.
@@ -66,6 +62,7 @@ pub fn block_word(i: Insn) -> u32
 }
 
 /// How far a target lies from the address plus 8, in 32 bits.
+#[tactic(auto, unfolding(encode_home::specs::WordTransfer::offset_of))]
 fn offset_of(addr: u64, to: u64) -> u64
     ensures { result ≡ W.offset_of addr to }
 {
@@ -91,12 +88,7 @@ fn laid_branch(i: Insn, bit: u64) -> u32
 pub fn branch_word(i: Insn) -> u32
     ensures { result ≡ W.branch_word i % 2 ^ 32 }
 {
-    let n = i.name;
-    if n == name::BL {
-        laid_branch(i, 1)
-    } else {
-        laid_branch(i, 0)
-    }
+    laid_branch(i, u64::from(i.name == name::BL))
 }
 
 /// Bit 24 is the halfword.
@@ -110,7 +102,7 @@ pub fn blx_word(i: Insn) -> u32
 fn preload(n: u16) -> u64
     ensures { result ≡ pick (eqb n (name "pld")) 1 0 }
 {
-    if n == name::PLD { 1 } else { 0 }
+    u64::from(n == name::PLD)
 }
 
 /// displacement 1111 rn 01 R U 0101 cond, from bit 0 up.
@@ -125,7 +117,7 @@ pub fn preload_word(i: Insn) -> u32
         &[
             f.value,
             15,
-            f.reg as u64,
+            f.reg.into(),
             1,
             preload(i.name),
             up(f),

@@ -2,12 +2,13 @@
 #![tactic(auto)]
 
 ghost use Rattle.std.specs.Prelude.{◌≡◌};
-ghost use Rattle.encode_trip.specs.Trip.{packed_of, trip_of};
+ghost use Rattle.a32.specs.Decode.{decode_of};
+ghost use Rattle.encode_trip.specs.Trip.{back_of, trip_of};
 
 use a32::decode;
 use encode::{Encoded, encode_with};
 use encode_home::Filler;
-use word_packed::pack;
+use word_packed::pack_answer;
 
 /// The word that encoding the answer to `w` gives, with a refusal's number above it.
 pub fn trip(w: u32, addr: u64) -> u64
@@ -26,16 +27,12 @@ pub fn trip_zeros(w: u32, addr: u64) -> u64
 fn back(w: u32, addr: u64, filler: Filler) -> u64
     ensures { result ≡ trip_of filler w addr }
 {
-    let d = decode(w, addr);
-    if d.refusal == 0 {
-        packed(encode_with(d.insn, filler))
-    } else {
-        pack(d.refusal, 0)
-    }
+    pack_answer(encoded(w, addr, filler))
 }
 
-fn packed(e: Encoded) -> u64
-    ensures { result ≡ packed_of e }
+/// The home word that the answer to `w` leads to.
+fn encoded(w: u32, addr: u64, filler: Filler) -> Encoded
+    ensures { result ≡ back_of filler (decode_of w addr) }
 {
-    pack(e.refusal, e.word)
+    encode_with(decode(w, addr)?, filler)
 }

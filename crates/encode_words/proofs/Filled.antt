@@ -1,12 +1,6 @@
 -- What is drawn of an instruction value, entry by entry. Assumes nothing.
-use mathlib.Core.Path.{◌≡◌, refl, ap, ◌∙◌}
-use mathlib.Core.Logic.{◌⊎◌, inl, inr}
-use mathlib.Core.Bool.{Bool, true, false}
-use mathlib.Core.List.{List, [], ◌∷◌, ◌++◌, map, append-nil}
-use Prim.Native.Nat.{ℕ, ◌≤◌, ◌<◌}
-use native.Mathlib.Omega.{arith}
-use borrow.Author.Tests.{eqb-true, eqb-false, leb-true, le-leb}
-use lib.Dec.{eqb, leb}
+use Rattle.std.proofs.Common.{◌≡◌, refl, ap, ◌∙◌, ◌⊎◌, inl, inr, Bool, true, false, List, [], ◌∷◌, ◌++◌, map, append-nil, ℕ, ◌≤◌, ◌<◌, arith, eqb-true, leb-true, le-leb, eqb, leb}
+use Rattle.std.proofs.lemmas.Bool.{eqb-false}
 use Rattle.word.specs.Choice.{pick, inside, by_test}
 use Rattle.insn.specs.declared.Insn.{Insn}
 use Rattle.encode_home.specs.Home.{gathered, puts_of, is_drawn, drawn_of}

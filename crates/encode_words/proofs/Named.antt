@@ -1,10 +1,6 @@
 -- The group that a name leads to. Assumes nothing.
-use mathlib.Core.Path.{◌≡◌}
-use mathlib.Core.Bool.{true, false}
-use Prim.Native.Nat.{ℕ, ◌≤◌}
-use native.Mathlib.Omega.{arith}
-use borrow.Author.Tests.{leb-true, ltb-true, le-leb, lt-leb}
-use lib.Dec.{eqb, leb, ltb}
+use Rattle.std.proofs.Common.{◌≡◌, true, false, ℕ, ◌≤◌, arith, leb-true, ltb-true, le-leb, eqb, leb, ltb}
+use Rattle.std.proofs.lemmas.Bool.{lt-leb}
 use Rattle.word.specs.Choice.{pick, inside, parts}
 use Rattle.insn.specs.Roots.{name}
 use Rattle.insn.specs.declared.Insn.{Insn}

@@ -1,6 +1,6 @@
 -- No second result fits a contract. Each line is about the contract itself, as the check reads it from the source.
 -- Assumes nothing.
-use mathlib.Core.Path.{◌∙◌, sym}
+use Rattle.std.proofs.Common.{◌∙◌, sym}
 use Rattle.word.specs.Only.{Only}
 use Rattle.encode_words.proofs.filled_word.Reads as filled_word
 use Rattle.encode_words.proofs.fill.draw.Reads as draw

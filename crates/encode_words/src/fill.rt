@@ -27,25 +27,20 @@ pub fn draw(i: Insn, w: u32) -> u32
 }
 
 /// Without a mask, ones would make a hint of an immediate msr.
+#[tactic(auto, unfolding(encode_home::specs::Home::puts_of))]
 fn draw_msr(i: Insn, w: u32) -> u32
     requires { i.name ≡ name "msr" }
     ensures { result ≡ fill_of Filler.Manual i w }
 {
-    if is_at(i, 1, REGISTER) {
-        return ones(w, 15, 12);
-    }
-    if is_at(i, 1, COUNT) {
-        if amount_at(i, 0) == 0 {
-            w
-        } else {
-            ones(w, 15, 12)
-        }
+    if is_at(i, 1, REGISTER) || is_at(i, 1, COUNT) && amount_at(i, 0) != 0 {
+        ones(w, 15, 12)
     } else {
         w
     }
 }
 
 /// A blx to an address ignores nothing.
+#[tactic(auto, unfolding(encode_home::specs::Home::puts_of))]
 fn draw_blx(i: Insn, w: u32) -> u32
     requires { i.name ≡ name "blx" }
     ensures { result ≡ fill_of Filler.Manual i w }

@@ -28,12 +28,8 @@ fn status_word(i: Insn) -> u32
     ensures { result ≡ W.status_word i % 2 ^ 32 }
 {
     let n = i.name;
-    if n == name::MSR {
-        if is_at(i, 1, COUNT) {
-            msr_immediate_word(i)
-        } else {
-            misc_word(i)
-        }
+    if n == name::MSR && is_at(i, 1, COUNT) {
+        msr_immediate_word(i)
     } else {
         misc_word(i)
     }

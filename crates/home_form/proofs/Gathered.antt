@@ -6,8 +6,8 @@ use native.Mathlib.Omega.{arith}
 use lib.Dec.{eqb}
 use lib.ListN.{length, length-append}
 use Rattle.word.specs.Choice.{tested}
-use Rattle.section.specs.Section.{here_of, step_of}
-use Rattle.section.specs.declared.Step.{Step}
+use Rattle.section.specs.Section.{here_of}
+use Rattle.section.specs.declared.Here.{Here}
 use Rattle.home_form.specs.Home.{gathered, bytes_at}
 use Rattle.home_form.specs.Changes.{change_at, listed, changes_at, numbers_of, is_unindexed, unindexed_among}
 use Rattle.home_form.specs.declared.Change.{Change}
@@ -60,6 +60,6 @@ few_changes s (suc n) =
     omega (arith, few_changes s n, length-append (gathered (changes_at s) n) (changes_at s n), at_most_one (change_at n (here_of s n)))
 
 -- what was read at a place is listed there
-pub read_there : (s : List ℕ) (n : ℕ) {found : Step} {change : Change} → found ≡ step_of s n → change ≡ change_at n found.here
+pub read_there : (s : List ℕ) (n : ℕ) {here : Here} {change : Change} → here ≡ here_of s n → change ≡ change_at n here
     → listed change ≡ changes_at s n
-read_there s n read made = ap listed (made ∙ ap (λ (x : Step). change_at n x.here) read)
+read_there s n read made = ap listed (made ∙ ap (change_at n) read)

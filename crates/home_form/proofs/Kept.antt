@@ -1,6 +1,9 @@
 -- A home form is opened to the same, each place of it reads as before, its own home form is itself, and the list of changes has the places whose
 -- words differ. Assumes nothing.
 use mathlib.Core.Path.{◌≡◌, refl, sym, ap, subst, ◌∙◌}
+use Rattle.word.specs.Refusal.{refused_with}
+use Rattle.word.specs.declared.refusal.Refusal.{Refusal}
+use Rattle.std.specs.Prelude.{Result}
 use mathlib.Core.List.{List, [], ◌∷◌, ◌++◌}
 use mathlib.Core.Logic.{◌↔◌, ◌⊎◌, inl, inr, ⊎_elim}
 use Prim.Native.Nat.{ℕ, zero, suc, ◌+◌, ◌*◌, ◌^◌, ◌<◌}
@@ -16,7 +19,7 @@ use Rattle.encode_home.specs.declared.Filler.TheVariants.{Manual}
 use Rattle.encode_home.specs.Home.{home_of}
 use Rattle.encode_home.proofs.Same.{home_decodes, home_small, home_home}
 use Rattle.section.specs.Ranges.{is_data}
-use Rattle.section.specs.Section.{ranges_of, refusal_of, opened_of, places_of, here_of}
+use Rattle.section.specs.Section.{ranges_of, refusal_of, opened_of, places_of, here_of, opening_of, opened_in}
 use Rattle.section.specs.Replaced.{with_word}
 use Rattle.section.specs.declared.Here.{Here}
 use Rattle.section.specs.declared.Here.TheVariants.{Word, Data, End}
@@ -33,7 +36,7 @@ use Rattle.home_form.proofs.Rewriting.{all_done, opened_same, passed}
 -- a word at home is at home, and so is one that is refused
 home_again : (w : ℕ) → w < 2 ^ 32 → home_of Manual (home_of Manual w) ≡ home_of Manual w
 home_again w bound =
-    by_test (eqb (decode_of w 0).refusal 0)
+    by_test (eqb (refused_with (decode_of w 0)) 0)
     (λ e. home_home Manual Manual w 0 bound (eqb-true _ 0 e))
     (λ e. let own : home_of Manual w ≡ w = unfold home_of in simp e in ap (home_of Manual) own)
 
@@ -64,42 +67,42 @@ stays_with End h = refl
 module _ (s : List ℕ) (ok : refusal_of s ≡ 0) where
   -- "the section is still accepted, with the same base, count and ranges"
   pub opens_same : opened_of (home_form_of s) ≡ opened_of s
-  opens_same = ap opened_of (sym (all_done s ok)) ∙ opened_same s (opened_of s).count (omega arith)
+  opens_same = ap opened_of (sym (all_done s ok)) ∙ opened_same s (opening_of s).count (omega arith)
 
-  pub same_header : take (opened_of s).start (home_form_of s) ≡ take (opened_of s).start s
+  pub same_header : take (opening_of s).start (home_form_of s) ≡ take (opening_of s).start s
   same_header = unfold home_form_of in
-      take_at (take (opened_of s).start s) (gathered (bytes_at s) (opened_of s).count) (opened_of s).start
-      (length-take-le (opened_of s).start s (omega (arith, (opened s).long)))
+      take_at (take (opening_of s).start s) (gathered (bytes_at s) (opening_of s).count) (opening_of s).start
+      (length-take-le (opening_of s).start s (omega (arith, (opened s).long)))
 
   module _ (bytes : Bytes s) where
     small_word : (p : ℕ) → word_here (here_of s p) < 2 ^ 32
     small_word p =
         by_test (ltb p (length (places_of s)))
-        (λ e. rw (before_end s (ltb-true p (length (places_of s)) e)) (tested (λ (here : Here). word_here here < 2 ^ 32) (is_data (ranges_of s (opened_of s).ranges) p)
+        (λ e. rw (before_end s (ltb-true p (length (places_of s)) e)) (tested (λ (here : Here). word_here here < 2 ^ 32) (is_data (ranges_of s (opening_of s).ranges) p)
         (λ d. there) (λ d. there)))
         (λ e. rw (at_end s (ltb-false p (length (places_of s)) e)) (omega arith))
       where
-        there : word_at s ((opened_of s).start + 4 * p) < 2 ^ 32
+        there : word_at s ((opening_of s).start + 4 * p) < 2 ^ 32
         there =
             omega (
               arith,
-              bytes ((opened_of s).start + 4 * p),
-              bytes ((opened_of s).start + 4 * p + 1),
-              bytes ((opened_of s).start + 4 * p + 2),
-              bytes ((opened_of s).start + 4 * p + 3),
+              bytes ((opening_of s).start + 4 * p),
+              bytes ((opening_of s).start + 4 * p + 1),
+              bytes ((opening_of s).start + 4 * p + 2),
+              bytes ((opening_of s).start + 4 * p + 3),
             )
 
     -- each place holds its word at home
     pub at_home : (p : ℕ) → here_of (home_form_of s) p ≡ with_word (home_here (here_of s p)) (here_of s p)
     at_home p =
-        by_test (ltb p (opened_of s).count)
+        by_test (ltb p (opening_of s).count)
         (λ e.
         ap (λ (t : List ℕ). here_of t p) (sym (all_done s ok))
-        ∙ passed s (λ q. small_here (here_of s q) (small_word q)) (opened_of s).count p (omega arith) (ltb-true p (opened_of s).count e))
+        ∙ passed s (λ q. small_here (here_of s q) (small_word q)) (opening_of s).count p (omega arith) (ltb-true p (opening_of s).count e))
         (λ e.
-        let past = ltb-false p (opened_of s).count e in
+        let past = ltb-false p (opening_of s).count e in
         let none = at_end s {place = p} (omega (arith, how_many_lem s)) in
-        at_end (home_form_of s) (omega (arith, how_many_lem (home_form_of s), ap (λ (o : Opened). o.count) opens_same))
+        at_end (home_form_of s) (omega (arith, how_many_lem (home_form_of s), ap (λ (o : Result Opened Refusal). (opened_in o).count) opens_same))
         ∙ sym (ap (λ (here : Here). with_word (home_here here) here) none))
 
     pub stays : (p : ℕ) → Stays (here_of s p) (here_of (home_form_of s) p)
@@ -111,13 +114,13 @@ module _ (s : List ℕ) (ok : refusal_of s ≡ 0) where
 
     pub again : home_form_of (home_form_of s) ≡ home_form_of s
     again =
-        by_parts (home_form_of s) ∙ ap (λ (o : Opened). take o.start (home_form_of s) ++ gathered (bytes_at (home_form_of s)) o.count) opens_same
-        ∙ ap (λ (l : List ℕ). l ++ gathered (bytes_at (home_form_of s)) (opened_of s).count) same_header
-        ∙ ap (λ (l : List ℕ). take (opened_of s).start s ++ l)
-        (same_gathered (bytes_at (home_form_of s)) (bytes_at s) (opened_of s).count (λ p h. ap bytes_of (homes_again p)))
+        by_parts (home_form_of s) ∙ ap (λ (o : Result Opened Refusal). take (opened_in o).start (home_form_of s) ++ gathered (bytes_at (home_form_of s)) (opened_in o).count) opens_same
+        ∙ ap (λ (l : List ℕ). l ++ gathered (bytes_at (home_form_of s)) (opening_of s).count) same_header
+        ∙ ap (λ (l : List ℕ). take (opening_of s).start s ++ l)
+        (same_gathered (bytes_at (home_form_of s)) (bytes_at s) (opening_of s).count (λ p h. ap bytes_of (homes_again p)))
         ∙ sym (by_parts s)
       where
-        by_parts : (t : List ℕ) → home_form_of t ≡ take (opened_of t).start t ++ gathered (bytes_at t) (opened_of t).count
+        by_parts : (t : List ℕ) → home_form_of t ≡ take (opening_of t).start t ++ gathered (bytes_at t) (opening_of t).count
         by_parts t = unfold home_form_of in refl
 
     -- the word at a place of the home form
@@ -126,7 +129,7 @@ module _ (s : List ℕ) (ok : refusal_of s ≡ 0) where
 
     -- "and lists nothing"
     pub none_again : changes_of (home_form_of s) ≡ []
-    none_again = unfold changes_of in nothing (opened_of (home_form_of s)).count
+    none_again = unfold changes_of in nothing (opening_of (home_form_of s)).count
       where
         nothing : (n : ℕ) → gathered (changes_at (home_form_of s)) n ≡ []
         nothing zero = refl
@@ -218,15 +221,15 @@ module _ (s : List ℕ) where
       )
 
   pub ascending : Ascending (changes_of s)
-  ascending = unfold changes_of in in_order (opened_of s).count
+  ascending = unfold changes_of in in_order (opening_of s).count
 
 -- the list has exactly the places where old and new differ
 pub lists_exactly : (s : List ℕ) → refusal_of s ≡ 0 → Bytes s → (c : Change) → In c (changes_of s) ↔ Differs s (home_form_of s) c
 lists_exactly s ok bytes c = unfold changes_of in (there, back)
   where
-    there : In c (gathered (changes_at s) (opened_of s).count) → Differs s (home_form_of s) c
+    there : In c (gathered (changes_at s) (opening_of s).count) → Differs s (home_form_of s) c
     there i =
-        let l = (lists s (opened_of s).count c).0 i in
+        let l = (lists s (opening_of s).count c).0 i in
         record {
           inside = l.below;
           old = ap (λ (d : Change). d.old) l.is;
@@ -237,9 +240,9 @@ lists_exactly s ok bytes c = unfold changes_of in (there, back)
     with_words : ℕ → ℕ → Change
     with_words old new = record { place = c.place; old = old; new = new }
 
-    back : Differs s (home_form_of s) c → In c (gathered (changes_at s) (opened_of s).count)
+    back : Differs s (home_form_of s) c → In c (gathered (changes_at s) (opening_of s).count)
     back d =
-        (lists s (opened_of s).count c).1
+        (lists s (opening_of s).count c).1
         (record {
           below = d.inside;
           is = ap (λ (old : ℕ). with_words old c.new) d.old

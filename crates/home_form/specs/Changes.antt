@@ -2,7 +2,7 @@
 use Rattle.std.specs.Prelude.{Bool, List, [], ◌∷◌, ℕ, ◌+◌, eqb}
 use Rattle.word.specs.Choice.{pick, both}
 use Rattle.word.specs.Field.{field}
-use Rattle.section.specs.Section.{opened_of, here_of}
+use Rattle.section.specs.Section.{here_of, opening_of}
 use Rattle.section.specs.declared.Here.{Here}
 use Rattle.home_form.specs.Home.{word_here, home_here, gathered}
 use Rattle.home_form.specs.declared.Change.{Change}
@@ -20,7 +20,7 @@ changes_at s place = listed (change_at place (here_of s place))
 
 -- "in order"
 unfoldable pub changes_of : List ℕ → List Change
-changes_of s = gathered (changes_at s) (opened_of s).count
+changes_of s = gathered (changes_at s) (opening_of s).count
 
 -- a list of numbers holds a change as three, one after the other
 abbrev pub numbers_of : List Change → List ℕ

@@ -3,7 +3,7 @@ use Rattle.std.specs.Prelude.{List, [], ◌++◌, ℕ, zero, suc, take}
 use Rattle.word.specs.Bytes.{bytes_of}
 use Rattle.encode_home.specs.declared.Filler.TheVariants.{Manual}
 use Rattle.encode_home.specs.Home.{home_of}
-use Rattle.section.specs.Section.{opened_of, here_of}
+use Rattle.section.specs.Section.{here_of, opening_of}
 use Rattle.section.specs.declared.Here.{Here}
 use Rattle.section.specs.declared.Here.TheVariants.{Word, Data, End}
 
@@ -30,4 +30,4 @@ bytes_at s place = bytes_of (home_here (here_of s place))
 
 -- "header and ranges keep their bytes": what stands before the words, and then the words
 unfoldable pub home_form_of : List ℕ → List ℕ
-home_form_of s = take (opened_of s).start s ++ gathered (bytes_at s) (opened_of s).count
+home_form_of s = take (opening_of s).start s ++ gathered (bytes_at s) (opening_of s).count

@@ -1,6 +1,6 @@
 -- What a home form keeps, and which changes are listed, place by place (02, P14).
 use Rattle.std.specs.Prelude.{◌≡◌, List, [], ◌∷◌, ◌⊎◌, ℕ, ◌<◌, get_or}
-use Rattle.section.specs.Section.{opened_of, here_of}
+use Rattle.section.specs.Section.{here_of, opening_of}
 use Rattle.section.specs.declared.Here.{Here}
 use Rattle.section.specs.declared.Here.TheVariants.{Word, Data, End}
 use Rattle.a32.specs.Decode.{decode_of}
@@ -26,7 +26,7 @@ In c (d ∷ l) = (c ≡ d) ⊎ In c l
 
 -- a place of a section whose old and new word differ
 pub record Differs (s s' : List ℕ) (c : Change) : Type 0 where
-  pub inside : c.place < (opened_of s).count
+  pub inside : c.place < (opening_of s).count
   pub old : c.old ≡ word_here (here_of s c.place)
   pub new : c.new ≡ word_here (here_of s' c.place)
   pub other : c.old ≡ c.new → ⊥

@@ -1,6 +1,6 @@
 -- No second result fits a contract. Each line is about the contract itself, as the check reads it from the source.
 -- Assumes nothing.
-use mathlib.Core.Path.{◌∙◌, sym}
+use Rattle.std.proofs.Common.{◌∙◌, sym}
 use Rattle.word.specs.Only.{Only}
 use Rattle.insn.proofs.Reg.new.Reads as reg_new
 use Rattle.insn.proofs.Reg.is_sp.Reads as is_sp
@@ -17,8 +17,6 @@ use Rattle.insn.proofs.Flow.number.Reads as flow_number
 use Rattle.insn.proofs.Flow.target.Reads as target
 use Rattle.insn.proofs.Insn.new.Reads as insn_new
 use Rattle.insn.proofs.Insn.with.Reads as with
-use Rattle.insn.proofs.Insn.accept.Reads as accept
-use Rattle.insn.proofs.refuse.Reads as refuse
 
 pub reg_new_only : Only reg_new.Post
 reg_new_only κs a r r' s s' p q = p ∙ sym q
@@ -64,9 +62,3 @@ insn_new_only κs a r r' s s' p q = p ∙ sym q
 
 pub with_only : Only with.Post
 with_only κs a r r' s s' p q = p ∙ sym q
-
-pub accept_only : Only accept.Post
-accept_only κs a r r' s s' p q = p ∙ sym q
-
-pub refuse_only : Only refuse.Post
-refuse_only κs a r r' s s' p q = p ∙ sym q

@@ -1,5 +1,7 @@
 -- What the decoder answers, as values (01, "What is built" and "Refusal numbers").
-use Rattle.std.specs.Prelude.{List, [], ◌∷◌, ◌++◌, map, ℕ, ◌-◌, length, get_or, set, replicate}
+use Rattle.std.specs.Prelude.{◌≡◌, refl, List, [], ◌∷◌, ◌++◌, map, ℕ, ◌-◌, length, get_or, set, replicate, Result, Ok, Err}
+use Rattle.word.specs.declared.refusal.Refusal.{Refusal}
+use Rattle.word.specs.Refusal.{refused_with, refusing, not_refused}
 use Rattle.insn.specs.declared.Cond.{Cond}
 use Rattle.insn.specs.declared.Place.{Place}
 use Rattle.insn.specs.declared.Flow.{Flow}
@@ -7,7 +9,6 @@ use Rattle.insn.specs.declared.Flow.TheVariants.{Next}
 use Rattle.insn.specs.declared.Operand.{Operand}
 use Rattle.insn.specs.declared.Operand.TheVariants.{Empty}
 use Rattle.insn.specs.declared.Insn.{Insn}
-use Rattle.insn.specs.declared.Decoded.{Decoded}
 
 -- how many operand places an instruction has: "every instruction value grows from four places to six" (02, P9)
 abbrev pub PLACES : ℕ
@@ -44,9 +45,23 @@ empty a n c f = insn_of a n c f (places [])
 abbrev pub filled : Insn → ℕ → Operand → Insn
 filled i n o = insn_of i.addr i.name i.cond i.flow (set i.ops n (used o))
 
-abbrev pub accepted : Insn → Decoded
-accepted i = record { refusal = 0; insn = i }
+-- what the decoder answers: an instruction, or a refusal
+abbrev pub Decoded : Type 0
+Decoded = Result Insn Refusal
 
--- a refusal's number, beside an instruction of zeros and empty operands
+abbrev pub accepted : Insn → Decoded
+accepted i = Ok i
+
+-- a refusal, by its number
 abbrev pub refused : ℕ → Decoded
-refused n = record { refusal = n; insn = empty 0 0 (record { 0 = 0 }) Next }
+refused n = refusing n
+
+-- the instruction of an answer; beside a refusal one of zeros and empty operands
+abbrev pub insn_in : Decoded → Insn
+insn_in (Ok i) = i
+insn_in (Err r) = empty 0 0 (record { 0 = 0 }) Next
+
+-- an answer that is not refused is its instruction
+pub accepted_of : (d : Decoded) → refused_with d ≡ 0 → d ≡ accepted (insn_in d)
+accepted_of (Ok i) ok = refl
+accepted_of (Err r) none = not_refused r none

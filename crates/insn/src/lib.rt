@@ -2,15 +2,17 @@
 #![tactic(auto)]
 
 ghost use Rattle.std.specs.Prelude.{◌≡◌, ◌<◌, eqb};
-ghost use Rattle.insn.specs.Answer.{PLACES, empty, filled, accepted, refused};
+ghost use Rattle.insn.specs.Answer.{PLACES, empty, filled};
 ghost use Rattle.insn.specs.Constants.{SP, LR, PC, AL};
 ghost use Rattle.insn.specs.Memory.{base_disp};
 ghost use Rattle.insn.specs.Numbers.{shift_number, status_number, mode_number, operand_number, flow_number, flow_target};
 
+use word::refusal::Refusal;
+
 pub mod name;
 
 /// A core register, by its number.
-#[derive(Clone, Copy)]
+#[derive(Clone, Copy, PartialEq, Eq)]
 pub struct Reg(pub u8);
 
 impl Reg {
@@ -32,24 +34,24 @@ impl Reg {
     pub fn is_sp(self) -> bool
         ensures { result ≡ eqb self.0 SP.0 }
     {
-        self.0 == Reg::SP.0
+        self == Reg::SP
     }
 
     pub fn is_lr(self) -> bool
         ensures { result ≡ eqb self.0 LR.0 }
     {
-        self.0 == Reg::LR.0
+        self == Reg::LR
     }
 
     pub fn is_pc(self) -> bool
         ensures { result ≡ eqb self.0 PC.0 }
     {
-        self.0 == Reg::PC.0
+        self == Reg::PC
     }
 }
 
 /// The condition of a word, its own bits 31:28.
-#[derive(Clone, Copy)]
+#[derive(Clone, Copy, PartialEq, Eq)]
 pub struct Cond(pub u8);
 
 impl Cond {
@@ -65,12 +67,12 @@ impl Cond {
     pub fn is_al(self) -> bool
         ensures { result ≡ eqb self.0 AL.0 }
     {
-        self.0 == Cond::AL.0
+        self == Cond::AL
     }
 }
 
 /// The kind of a shift.
-#[derive(Clone, Copy)]
+#[derive(Clone, Copy, PartialEq, Eq)]
 pub enum Shift {
     Lsl,
     Lsr,
@@ -83,17 +85,12 @@ impl Shift {
     pub fn number(self) -> u8
         ensures { result ≡ shift_number self }
     {
-        match self {
-            Shift::Lsl => 0,
-            Shift::Lsr => 1,
-            Shift::Asr => 2,
-            Shift::Ror => 3,
-        }
+        self as u8
     }
 }
 
 /// The status register that `mrs` reads.
-#[derive(Clone, Copy)]
+#[derive(Clone, Copy, PartialEq, Eq)]
 pub enum Status {
     Apsr,
     Spsr,
@@ -103,15 +100,12 @@ impl Status {
     pub fn number(self) -> u8
         ensures { result ≡ status_number self }
     {
-        match self {
-            Status::Apsr => 0,
-            Status::Spsr => 1,
-        }
+        self as u8
     }
 }
 
 /// How a memory operand computes its address.
-#[derive(Clone, Copy)]
+#[derive(Clone, Copy, PartialEq, Eq)]
 pub enum AddrMode {
     /// `[base, #disp]`.
     Offset,
@@ -125,26 +119,16 @@ impl AddrMode {
     pub fn number(self) -> u8
         ensures { result ≡ mode_number self }
     {
-        match self {
-            AddrMode::Offset => 0,
-            AddrMode::PreIndex => 1,
-            AddrMode::PostIndex => 2,
-        }
+        self as u8
     }
 }
 
-/// An index register with its left shift, or none.
-#[derive(Clone, Copy)]
-pub enum Index {
-    Absent,
-    Left(Reg, u8),
-}
-
 /// A memory reference.
-#[derive(Clone, Copy)]
+#[derive(Clone, Copy, PartialEq, Eq)]
 pub struct Mem {
     pub base: Reg,
-    pub index: Index,
+    /// An index register with its left shift.
+    pub index: Option<(Reg, u8)>,
     pub disp: i64,
     pub mode: AddrMode,
     /// Bytes transferred.
@@ -162,7 +146,7 @@ impl Mem {
     {
         Mem {
             base: base,
-            index: Index::Absent,
+            index: None,
             disp: disp,
             mode: AddrMode::Offset,
             size: size,
@@ -173,8 +157,9 @@ impl Mem {
 }
 
 /// One operand, or the empty one of an unused place.
-#[derive(Clone, Copy)]
+#[derive(Clone, Copy, PartialEq, Eq)]
 pub enum Operand {
+    /// No operand, and no `Option` around one: rows, digests and C number it 0 among the kinds.
     Empty,
     /// A plain register.
     Register(Reg),
@@ -236,14 +221,14 @@ impl Operand {
     }
 }
 
-/// One of an instruction's operand places.
-#[derive(Clone, Copy)]
+/// One of an instruction's operand places: document 01 asks for an array of operand structs.
+#[derive(Clone, Copy, PartialEq, Eq)]
 pub struct Place {
     pub operand: Operand,
 }
 
 /// What the instruction does to control flow.
-#[derive(Clone, Copy)]
+#[derive(Clone, Copy, PartialEq, Eq)]
 pub enum Flow {
     /// Execution continues at the next instruction.
     Next,
@@ -279,19 +264,13 @@ impl Flow {
         }
     }
 
-    /// The direct target, or 0 where there is none.
+    /// The direct target, or 0 where there is none: the number that a row and a digest hold. A match on the flow tells the two apart.
     pub fn target(self) -> u32
         ensures { result ≡ flow_target self }
     {
         match self {
-            Flow::Next => 0,
-            Flow::Branch(a) => a,
-            Flow::CondBranch(a) => a,
-            Flow::IndirectBranch => 0,
-            Flow::Call(a) => a,
-            Flow::IndirectCall => 0,
-            Flow::Return => 0,
-            Flow::Trap => 0,
+            Flow::Branch(a) | Flow::CondBranch(a) | Flow::Call(a) => a,
+            _ => 0,
         }
     }
 }
@@ -300,7 +279,7 @@ impl Flow {
 pub const PLACES: usize = 6;
 
 /// A decoded instruction.
-#[derive(Clone, Copy)]
+#[derive(Clone, Copy, PartialEq, Eq)]
 pub struct Insn {
     /// Where it starts.
     pub addr: u64,
@@ -336,40 +315,7 @@ impl Insn {
         self.ops[n] = Place { operand: operand };
         self
     }
-
-    /// The answer that gives this instruction.
-    pub fn accept(self) -> Decoded
-        ensures { result ≡ accepted self }
-    {
-        Decoded {
-            refusal: 0,
-            insn: self,
-        }
-    }
 }
 
-/// An instruction, or the number of the refusal beside an empty one.
-#[derive(Clone, Copy)]
-pub struct Decoded {
-    pub refusal: u8,
-    pub insn: Insn,
-}
-
-/// The answer that refuses with the number `n`.
-pub fn refuse(n: u8) -> Decoded
-    ensures { result ≡ refused n }
-{
-    let none = Place {
-        operand: Operand::Empty,
-    };
-    Decoded {
-        refusal: n,
-        insn: Insn {
-            addr: 0,
-            name: 0,
-            cond: Cond(0),
-            flow: Flow::Next,
-            ops: [none; PLACES],
-        },
-    }
-}
+/// What the decoder answers: an instruction, or why there is none.
+pub type Decoded = Result<Insn, Refusal>;

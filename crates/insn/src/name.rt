@@ -1,5 +1,5 @@
 //! The names by number: the 129 roots that a32.rs answers, in the order in which it first spells them, then the barriers, then the halfword
-//! multiplies.
+//! multiplies. A name is a number and no enum: rows, listings and what another language calls hold the number.
 
 // DP and DP_S: the data processing names, plain and setting the flags.
 pub const AND: u16 = 0;

@@ -3,6 +3,7 @@
 use mathlib.Core.Path.{◌∙◌, sym}
 use Rattle.word.specs.Only.{Only}
 use Rattle.insn_parts.proofs.flatten.Reads as flatten
+use Rattle.insn_parts.proofs.plain.Reads as plain
 use Rattle.insn_parts.proofs.read.at.Reads as at
 use Rattle.insn_parts.proofs.read.cond.Reads as cond
 use Rattle.insn_parts.proofs.read.is_at.Reads as is_at
@@ -20,6 +21,9 @@ use Rattle.insn_parts.proofs.read.entry.Reads as entry
 
 pub flatten_only : Only flatten.Post
 flatten_only κs a r r' s s' p q = p ∙ sym q
+
+pub plain_only : Only plain.Post
+plain_only κs a r r' s s' p q = p ∙ sym q
 
 pub at_only : Only at.Post
 at_only κs a r r' s s' p q = p ∙ sym q

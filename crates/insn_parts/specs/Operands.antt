@@ -1,12 +1,11 @@
 -- An operand as numbers.
-use Rattle.std.specs.Prelude.{Bool, true, false, ℕ, ℤ, pos, negsuc, nat_abs}
+use Rattle.std.specs.Prelude.{Bool, true, false, ℕ, ℤ, pos, negsuc, nat_abs, Option, Some, None}
 use Rattle.insn.specs.Numbers.{shift_number, status_number, mode_number}
-use Rattle.insn.specs.declared.Index.{Index}
-use Rattle.insn.specs.declared.Index.TheVariants.{Absent, Left}
+use Rattle.insn.specs.declared.Reg.{Reg}
 use Rattle.insn.specs.declared.Mem.{Mem}
 use Rattle.insn.specs.declared.Operand.{Operand}
 use Rattle.insn.specs.declared.Operand.TheVariants.{Empty, Register, Shifted, ShiftBy, SaturateShift, Rotate, Count, Number, StatusMask}
-use Rattle.insn.specs.declared.Operand.TheVariants.{StatusSource, WriteBack, List as RegisterList, Address, Memory, Option}
+use Rattle.insn.specs.declared.Operand.TheVariants.{StatusSource, WriteBack, List as RegisterList, Address, Memory, Option as BarrierOption}
 use Rattle.insn.specs.declared.Operand.TheVariants.{Coprocessor, CoprocessorRegister}
 use Rattle.insn_parts.specs.declared.Flat.{Flat}
 
@@ -19,17 +18,17 @@ abbrev pub mark_number : Bool → ℕ
 mark_number false = 0
 mark_number true = 1
 
-abbrev pub index_number : Index → ℕ
-index_number Absent = 0
-index_number (Left r n) = 1
+abbrev pub index_number : Option (Reg × ℕ) → ℕ
+index_number None = 0
+index_number (Some (r, n)) = 1
 
-abbrev pub index_reg : Index → ℕ
-index_reg Absent = 0
-index_reg (Left r n) = r.0
+abbrev pub index_reg : Option (Reg × ℕ) → ℕ
+index_reg None = 0
+index_reg (Some (r, n)) = r.0
 
-abbrev pub index_amount : Index → ℕ
-index_amount Absent = 0
-index_amount (Left r n) = n
+abbrev pub index_amount : Option (Reg × ℕ) → ℕ
+index_amount None = 0
+index_amount (Some (r, n)) = n
 
 -- an operand as numbers: its kind, then its values, 0 where it has none
 abbrev pub plain_flat : ℕ → ℕ → ℕ → ℕ → ℕ → ℕ → Flat
@@ -77,6 +76,6 @@ operand_flat (WriteBack r) = plain_flat 10 r.0 0 0 0 0
 operand_flat (RegisterList n) = plain_flat 11 0 0 0 0 n
 operand_flat (Address n) = plain_flat 12 0 0 0 0 n
 operand_flat (Memory m) = mem_flat m
-operand_flat (Option n) = plain_flat 14 0 0 n 0 0
+operand_flat (BarrierOption n) = plain_flat 14 0 0 n 0 0
 operand_flat (Coprocessor n) = plain_flat 15 0 0 n 0 0
 operand_flat (CoprocessorRegister n) = plain_flat 16 0 0 n 0 0

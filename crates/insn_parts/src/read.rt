@@ -6,7 +6,7 @@ ghost use Rattle.insn_parts.specs.Parts as P;
 use crate::{Flat, flatten};
 use insn::Insn;
 
-/// The numbers of the kinds by which words of one name differ.
+/// The numbers of the kinds by which words of one name differ: those of `Flat`, since a row for C has them.
 pub const REGISTER: u8 = 1;
 
 pub const SHIFT_BY: u8 = 3;
@@ -22,18 +22,14 @@ pub fn at(i: Insn, n: usize) -> Flat
     requires { n < PLACES }
     ensures { result ≡ P.at i n }
 {
-    let ops = i.ops;
-    let p = ops[n];
-    let o = p.operand;
-    flatten(o)
+    flatten(i.ops[n].operand)
 }
 
 /// The condition.
 pub fn cond(i: Insn) -> u64
     ensures { result ≡ i.cond.0 }
 {
-    let c = i.cond;
-    c.0 as u64
+    u64::from(i.cond.0)
 }
 
 /// Whether an operand of a kind is at a place.
@@ -49,7 +45,7 @@ pub fn register_at(i: Insn, n: usize) -> u64
     requires { n < PLACES }
     ensures { result ≡ (P.at i n).reg }
 {
-    at(i, n).reg as u64
+    u64::from(at(i, n).reg)
 }
 
 /// The kind of a shift, or the status register, at a place.
@@ -57,7 +53,7 @@ pub fn how_at(i: Insn, n: usize) -> u64
     requires { n < PLACES }
     ensures { result ≡ (P.at i n).how }
 {
-    at(i, n).how as u64
+    u64::from(at(i, n).how)
 }
 
 /// The amount or the mask at a place.
@@ -65,7 +61,7 @@ pub fn amount_at(i: Insn, n: usize) -> u64
     requires { n < PLACES }
     ensures { result ≡ (P.at i n).amount }
 {
-    at(i, n).amount as u64
+    u64::from(at(i, n).amount)
 }
 
 /// The number at a place.
@@ -91,52 +87,47 @@ pub fn number(f: Flat) -> u64
 fn complement(n: u64) -> u64
     ensures { result ≡ 2 ^ 32 - n }
 {
-    if n < 0x1_0000_0000 {
-        0x1_0000_0000 - n
-    } else {
-        0
-    }
+    0x1_0000_0000_u64.saturating_sub(n)
 }
 
 /// U of a displacement that is added.
 pub fn up(f: Flat) -> u64
     ensures { result ≡ P.up f.negative }
 {
-    if f.negative == 0 { 1 } else { 0 }
+    u64::from(f.negative == 0)
 }
 
 /// U, with the mark of minus zero.
 pub fn bit_u(f: Flat) -> u64
     ensures { result ≡ P.bit_u f.negative f.minus }
 {
-    if f.minus == 0 { up(f) } else { 0 }
+    u64::from(f.minus == 0 && f.negative == 0)
 }
 
 /// P, by the mode.
 pub fn bit_p(mode: u8) -> u64
     ensures { result ≡ P.bit_p mode }
 {
-    if mode == 2 { 0 } else { 1 }
+    u64::from(mode != 2)
 }
 
 /// W, by the mode.
 pub fn bit_w(mode: u8) -> u64
     ensures { result ≡ P.bit_w mode }
 {
-    if mode == 1 { 1 } else { 0 }
+    u64::from(mode == 1)
 }
 
 /// How far a name is past the first of its group.
 pub fn past(n: u16, first: u16) -> u64
     ensures { result ≡ n - first }
 {
-    if n < first { 0 } else { (n - first) as u64 }
+    u64::from(n.saturating_sub(first))
 }
 
 /// An entry of a table, or 0 beyond its end.
 pub fn entry(table: &[u64], n: u64) -> u64
     ensures { result ≡ get_or table.now n 0 }
 {
-    let k = n as usize;
-    if k < table.len() { table[k] } else { 0 }
+    table.get(n as usize).copied().unwrap_or(0)
 }

@@ -12,13 +12,12 @@ use lib.Seq.{take-suc, take_all, get_or-append-add}
 use Rattle.word.specs.Choice.{pick}
 use Rattle.insn.specs.Answer.{PLACES, used, unused, place_at, insn_of}
 use Rattle.insn.specs.Numbers.{flow_number, flow_target}
-use Rattle.insn.specs.declared.Index.{Index}
-use Rattle.insn.specs.declared.Index.TheVariants.{Absent, Left}
+use Rattle.std.specs.Prelude.{Option, Some, None}
 use Rattle.insn.specs.declared.Insn.{Insn}
 use Rattle.insn.specs.declared.Mem.{Mem}
 use Rattle.insn.specs.declared.Operand.{Operand}
 use Rattle.insn.specs.declared.Operand.TheVariants.{Empty, Register, Shifted, ShiftBy, SaturateShift, Rotate, Count, Number, StatusMask}
-use Rattle.insn.specs.declared.Operand.TheVariants.{StatusSource, WriteBack, List as RegisterList, Address, Memory, Option}
+use Rattle.insn.specs.declared.Operand.TheVariants.{StatusSource, WriteBack, List as RegisterList, Address, Memory, Option as BarrierOption}
 use Rattle.insn.specs.declared.Operand.TheVariants.{Coprocessor, CoprocessorRegister}
 use Rattle.insn.specs.declared.Place.{Place}
 use Rattle.insn.specs.declared.Reg.{Reg}
@@ -36,9 +35,9 @@ use Rattle.insn_row.proofs.Sizes.{size_before}
 abbrev pub magnitude : ℤ → ℕ
 magnitude z = nat_abs z - sign_number z
 
-abbrev pub Indexed : Index → Type 0
-Indexed Absent = Unit
-Indexed (Left r n) = (r.0 < 2 ^ 8) × (n < 2 ^ 8)
+abbrev pub Indexed : Option (Reg × ℕ) → Type 0
+Indexed None = Unit
+Indexed (Some (r, n)) = (r.0 < 2 ^ 8) × (n < 2 ^ 8)
 
 abbrev pub Narrow : Operand → Type 0
 Narrow Empty = Unit
@@ -55,7 +54,7 @@ Narrow (WriteBack r) = r.0 < 2 ^ 8
 Narrow (RegisterList n) = n < 2 ^ 16
 Narrow (Address n) = n < 2 ^ 32
 Narrow (Memory m) = (m.base.0 < 2 ^ 8) × (Indexed m.index × ((magnitude m.disp < 2 ^ 63) × (m.size < 2 ^ 8)))
-Narrow (Option n) = n < 2 ^ 8
+Narrow (BarrierOption n) = n < 2 ^ 8
 Narrow (Coprocessor n) = n < 2 ^ 8
 Narrow (CoprocessorRegister n) = n < 2 ^ 8
 
@@ -87,9 +86,9 @@ signed_back (negsuc n) h = ap (λ (x : ℕ). negsuc x) (mod-eq_of_lt h ∙ omega
 index_back : (m : Mem) → Indexed m.index → index_from (operand_row (Memory m)) 0 ≡ m.index
 index_back m = of m.index
   where
-    of : (x : Index) → Indexed x → pick (not (eqb (index_number x) 0)) (Left (record { 0 = index_reg x % 2 ^ 8 }) (index_amount x % 2 ^ 8)) Absent ≡ x
-    of Absent h = refl
-    of (Left r n) h = ap₂ (λ (x : Reg) (y : ℕ). Left x y) (reg_back r h.0) (mod-eq_of_lt h.1)
+    of : (x : Option (Reg × ℕ)) → Indexed x → pick (not (eqb (index_number x) 0)) (Some (record { 0 = index_reg x % 2 ^ 8 }, index_amount x % 2 ^ 8)) None ≡ x
+    of None h = refl
+    of (Some (r, n)) h = ap₂ (λ (x : Reg) (y : ℕ). Some (x, y)) (reg_back r h.0) (mod-eq_of_lt h.1)
 
 mem_back : (m : Mem) → Narrow (Memory m) → mem_from (operand_row (Memory m)) 0 ≡ m
 mem_back m h = λ i. record {
@@ -117,7 +116,7 @@ operand_back (WriteBack r) h = ap (λ (x : Reg). WriteBack x) (reg_back r h)
 operand_back (RegisterList n) h = ap (λ (x : ℕ). RegisterList x) (plain_back h)
 operand_back (Address n) h = ap (λ (x : ℕ). Address x) (plain_back h)
 operand_back (Memory m) h = ap (λ (x : Mem). Memory x) (mem_back m h)
-operand_back (Option n) h = ap (λ (x : ℕ). Option x) (mod-eq_of_lt h)
+operand_back (BarrierOption n) h = ap (λ (x : ℕ). BarrierOption x) (mod-eq_of_lt h)
 operand_back (Coprocessor n) h = ap (λ (x : ℕ). Coprocessor x) (mod-eq_of_lt h)
 operand_back (CoprocessorRegister n) h = ap (λ (x : ℕ). CoprocessorRegister x) (mod-eq_of_lt h)
 

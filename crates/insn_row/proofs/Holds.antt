@@ -1,19 +1,21 @@
 -- A comparison of numbers with those of a row: part by part, and what it tells. Assumes nothing.
-use mathlib.Core.Path.{◌≡◌, refl, sym, ap, ap₂, ◌∙◌}
+use mathlib.Core.Path.{◌≡◌, refl, sym, ap, ap₂, subst, ◌∙◌}
 use mathlib.Core.Bool.{Bool, true, false}
 use mathlib.Core.List.{List, [], ◌∷◌, ◌++◌}
 use mathlib.Core.Logic.{◌↔◌}
 use Prim.Native.Nat.{ℕ, zero, suc, ◌+◌, ◌<◌}
 use native.Mathlib.Nat.{add-zero, add-suc, suc-add}
+use native.Mathlib.Numerals.{add-one}
 use native.Mathlib.Omega.{arith}
-use borrow.Author.Tests.{eqb-true, eq-eqb}
+use borrow.Author.Tests.{eqb-true, eq-eqb, ne_eqb}
 use lib.Dec.{eqb}
-use lib.ListN.{length, get_or}
+use lib.ListN.{length, get_or, take, drop, take-append-drop}
+use lib.Seq.{take-suc, length-take-le, drop-cons}
 use Rattle.word.specs.Choice.{both, parts}
-use Rattle.insn_same.proofs.Tests.{passed, failed}
+use Rattle.insn_same.proofs.Tests.{passed, failed, last}
 use Rattle.insn_row.specs.Row.{numbers_of, holds, Told}
 
-both_first : (a b c : Bool) → both (both a b) c ≡ both a (both b c)
+pub both_first : (a b c : Bool) → both (both a b) c ≡ both a (both b c)
 both_first true b c = refl
 both_first false b c = refl
 
@@ -30,6 +32,20 @@ on {row} {p} {xs} {ys} first holding rest = record { is = passed (sym first.is �
 
 pub off : {row : List ℕ} {p : ℕ} {xs : List ℕ} (ys : List ℕ) {r : Bool} → Told row p xs r → r ≡ false → Told row p (xs ++ ys) false
 off {row} {p} {xs} ys first failing = record { is = failed _ (sym first.is ∙ failing) ∙ in_parts row p xs ys }
+
+-- one number, after those that a row has
+module _ {row : List ℕ} {p : ℕ} (xs : List ℕ) (n : ℕ) (there : n < length xs) (before : Told row p (take n xs) true) where
+  here : {r : Bool} → r ≡ eqb (get_or row (p + n) 0) (get_or xs n 0) → Told row (p + length (take n xs)) (get_or xs n 0 ∷ []) r
+  here is = rw (length-take-le n xs (omega arith)) (record { is = is ∙ last _ })
+
+  pub equal_here : get_or row (p + n) 0 ≡ get_or xs n 0 → Told row p (take (n + 1) xs) true
+  equal_here e = rw (add-one n, take-suc xs n 0 there) (on before refl (here (sym (eq-eqb _ _ e))))
+
+  pub unequal_here : (get_or row (p + n) 0 ≡ get_or xs n 0 → ⊥) → Told row p xs false
+  unequal_here e =
+      subst (λ (l : List ℕ). Told row p l false)
+      (ap (λ (l : List ℕ). take n xs ++ l) (sym (drop-cons xs n 0 there)) ∙ take-append-drop n xs)
+      (on before refl (off (drop (suc n) xs) (here (sym (ne_eqb _ _ e))) refl))
 
 -- a comparison passes exactly if the numbers are those of the row
 pub holds_exactly : (row : List ℕ) (p : ℕ) (xs : List ℕ) → (holds row p xs ≡ true) ↔ (xs ≡ numbers_of row p (length xs))

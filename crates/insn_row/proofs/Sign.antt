@@ -4,7 +4,7 @@ use native.Mathlib.Omega.{arith}
 use lib.IntN.{ℤ, pos, negsuc, nat_abs}
 use Rattle.insn.specs.declared.Operand.{Operand}
 use Rattle.insn.specs.declared.Operand.TheVariants.{Empty, Register, Shifted, ShiftBy, SaturateShift, Rotate, Count, Number, StatusMask}
-use Rattle.insn.specs.declared.Operand.TheVariants.{StatusSource, WriteBack, List as RegisterList, Address, Memory, Option}
+use Rattle.insn.specs.declared.Operand.TheVariants.{StatusSource, WriteBack, List as RegisterList, Address, Memory, Option as BarrierOption}
 use Rattle.insn.specs.declared.Operand.TheVariants.{Coprocessor, CoprocessorRegister}
 use Rattle.insn_parts.specs.Operands.{sign_number, operand_flat}
 
@@ -27,6 +27,6 @@ sign_below (WriteBack r) = omega arith
 sign_below (RegisterList n) = omega arith
 sign_below (Address n) = omega arith
 sign_below (Memory m) = signed m.disp
-sign_below (Option n) = omega arith
+sign_below (BarrierOption n) = omega arith
 sign_below (Coprocessor n) = omega arith
 sign_below (CoprocessorRegister n) = omega arith

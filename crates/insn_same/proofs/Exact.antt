@@ -16,12 +16,12 @@ use Rattle.insn.specs.declared.Status.{Status}
 use Rattle.insn.specs.declared.Status.TheVariants.{Apsr, Spsr}
 use Rattle.insn.specs.declared.AddrMode.{AddrMode}
 use Rattle.insn.specs.declared.AddrMode.TheVariants.{Offset, PreIndex, PostIndex}
-use Rattle.insn.specs.declared.Index.{Index}
-use Rattle.insn.specs.declared.Index.TheVariants.{Absent, Left}
+use Rattle.std.specs.Prelude.{Option, Some, None}
+use Rattle.insn.specs.declared.Reg.{Reg}
 use Rattle.insn.specs.declared.Mem.{Mem}
 use Rattle.insn.specs.declared.Operand.{Operand}
 use Rattle.insn.specs.declared.Operand.TheVariants.{Empty, Register, Shifted, ShiftBy, SaturateShift, Rotate, Count, Number, StatusMask}
-use Rattle.insn.specs.declared.Operand.TheVariants.{StatusSource, WriteBack, List as RegisterList, Address, Memory, Option}
+use Rattle.insn.specs.declared.Operand.TheVariants.{StatusSource, WriteBack, List as RegisterList, Address, Memory, Option as BarrierOption}
 use Rattle.insn.specs.declared.Operand.TheVariants.{Coprocessor, CoprocessorRegister}
 use Rattle.insn.specs.declared.Place.{Place}
 use Rattle.insn.specs.declared.Flow.{Flow}
@@ -71,12 +71,12 @@ signed_back_lem : (z : ℤ) → signed_back (sign_number z) (nat_abs z) ≡ z
 signed_back_lem (pos n) = refl
 signed_back_lem (negsuc n) = refl
 
-abbrev index_back : ℕ → ℕ → ℕ → Index
-index_back s r n = pick (eqb s 0) Absent (Left (record { 0 = r }) n)
+abbrev index_back : ℕ → ℕ → ℕ → Option (Reg × ℕ)
+index_back s r n = pick (eqb s 0) None (Some (record { 0 = r }, n))
 
-index_back_lem : (i : Index) → index_back (index_number i) (index_reg i) (index_amount i) ≡ i
-index_back_lem Absent = refl
-index_back_lem (Left r n) = refl
+index_back_lem : (i : Option (Reg × ℕ)) → index_back (index_number i) (index_reg i) (index_amount i) ≡ i
+index_back_lem None = refl
+index_back_lem (Some (r, n)) = refl
 
 abbrev mem_back : Flat → Mem
 mem_back f = record {
@@ -116,7 +116,7 @@ operand_back f =
     (pick (eqb f.kind 11) (RegisterList f.value)
     (pick (eqb f.kind 12) (Address f.value)
     (pick (eqb f.kind 13) (Memory (mem_back f))
-    (pick (eqb f.kind 14) (Option f.amount)
+    (pick (eqb f.kind 14) (BarrierOption f.amount)
     (pick (eqb f.kind 15) (Coprocessor f.amount) (CoprocessorRegister f.amount))))))))))))))))
 
 pub operand_back_lem : (o : Operand) → operand_back (operand_flat o) ≡ o
@@ -134,7 +134,7 @@ operand_back_lem (WriteBack r) = refl
 operand_back_lem (RegisterList n) = refl
 operand_back_lem (Address n) = refl
 operand_back_lem (Memory m) = ap (λ (x : Mem). Memory x) (mem_back_lem m)
-operand_back_lem (Option n) = refl
+operand_back_lem (BarrierOption n) = refl
 operand_back_lem (Coprocessor n) = refl
 operand_back_lem (CoprocessorRegister n) = refl
 

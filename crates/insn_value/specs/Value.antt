@@ -1,6 +1,6 @@
 -- An instruction value from a row of numbers: a row that any program can fill. Every row is read as some value: a number that is too large
 -- counts by its low bits, and beyond the row's end there are zeros. Whether the value's row is the row that was read is for the encoder to say.
-use Rattle.std.specs.Prelude.{Bool, not, List, [], ◌∷◌, ◌++◌, ℕ, zero, suc, ◌+◌, ◌*◌, ◌%◌, ◌^◌, eqb, ℤ, pos, negsuc, get_or}
+use Rattle.std.specs.Prelude.{Bool, not, List, [], ◌∷◌, ◌++◌, ℕ, zero, suc, ◌+◌, ◌*◌, ◌%◌, ◌^◌, eqb, ℤ, pos, negsuc, get_or, Option, Some, None}
 use Rattle.word.specs.Choice.{pick}
 use Rattle.insn.specs.Answer.{PLACES, used, insn_of}
 use Rattle.insn.specs.declared.Reg.{Reg}
@@ -8,14 +8,12 @@ use Rattle.insn.specs.declared.Shift.{Shift}
 use Rattle.insn.specs.declared.Shift.TheVariants.{Lsl, Lsr, Asr, Ror}
 use Rattle.insn.specs.declared.Status.{Status}
 use Rattle.insn.specs.declared.Status.TheVariants.{Apsr, Spsr}
-use Rattle.insn.specs.declared.Index.{Index}
-use Rattle.insn.specs.declared.Index.TheVariants.{Absent, Left}
 use Rattle.insn.specs.declared.AddrMode.{AddrMode}
 use Rattle.insn.specs.declared.AddrMode.TheVariants.{Offset, PreIndex, PostIndex}
 use Rattle.insn.specs.declared.Mem.{Mem}
 use Rattle.insn.specs.declared.Operand.{Operand}
 use Rattle.insn.specs.declared.Operand.TheVariants.{Empty, Register, Shifted, ShiftBy, SaturateShift, Rotate, Count, Number, StatusMask}
-use Rattle.insn.specs.declared.Operand.TheVariants.{StatusSource, WriteBack, List as RegisterList, Address, Memory, Option}
+use Rattle.insn.specs.declared.Operand.TheVariants.{StatusSource, WriteBack, List as RegisterList, Address, Memory, Option as BarrierOption}
 use Rattle.insn.specs.declared.Operand.TheVariants.{Coprocessor, CoprocessorRegister}
 use Rattle.insn.specs.declared.Flow.{Flow}
 use Rattle.insn.specs.declared.Flow.TheVariants.{Next, Branch, CondBranch, IndirectBranch, Call, IndirectCall, Return, Trap}
@@ -32,7 +30,7 @@ marked row n = not (eqb (get_or row n 0) 0)
 abbrev pub reg_from : List ℕ → ℕ → Reg
 reg_from row n = record { 0 = low 8 row n }
 
--- the inverses of `shiftNumber`, `statusNumber`, `modeNumber` and `flowNumber`; a number beyond the last stands for the last
+-- the inverses of `shift_number`, `status_number`, `mode_number` and `flow_number`; a number beyond the last stands for the last
 abbrev pub shift_from : ℕ → Shift
 shift_from n = pick (eqb n 0) Lsl (pick (eqb n 1) Lsr (pick (eqb n 2) Asr Ror))
 
@@ -58,8 +56,8 @@ signed_from row p = pick (marked row p) (negsuc (low 63 row (p + 1))) (pos (low 
 
 -- an operand's eleven numbers, from place p on: kind; register or base; shift's kind, status register or whether there is an index;
 -- amount, mask, option or coprocessor's number; sign; value or displacement; index; mode; size; decimal; minus zero
-abbrev pub index_from : List ℕ → ℕ → Index
-index_from row p = pick (marked row (p + 2)) (Left (reg_from row (p + 6)) (low 8 row (p + 3))) Absent
+abbrev pub index_from : List ℕ → ℕ → Option (Reg × ℕ)
+index_from row p = pick (marked row (p + 2)) (Some (reg_from row (p + 6), low 8 row (p + 3))) None
 
 abbrev pub mem_from : List ℕ → ℕ → Mem
 mem_from row p = record {
@@ -88,7 +86,7 @@ operand_as kind row p =
     (pick (eqb kind 11) (RegisterList (low 16 row (p + 5)))
     (pick (eqb kind 12) (Address (low 32 row (p + 5)))
     (pick (eqb kind 13) (Memory (mem_from row p))
-    (pick (eqb kind 14) (Option n)
+    (pick (eqb kind 14) (BarrierOption n)
     (pick (eqb kind 15) (Coprocessor n)
     (pick (eqb kind 16) (CoprocessorRegister n) Empty)))))))))))))))
   where

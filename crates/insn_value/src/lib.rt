@@ -7,7 +7,7 @@ ghost use Rattle.insn_value.specs.Value.{low, marked, reg_from, shift_from, stat
 ghost use Rattle.insn_value.specs.Value.{operand_as};
 ghost use Rattle.insn_value.specs.Value.{operand_from, places_from, insn_from};
 
-use insn::{AddrMode, Cond, Flow, Index, Insn, Mem, Operand, PLACES, Place, Reg, Shift, Status};
+use insn::{AddrMode, Cond, Flow, Insn, Mem, Operand, PLACES, Place, Reg, Shift, Status};
 
 /// The instruction value of a row.
 pub fn insn_from(row: &[u64]) -> Insn
@@ -17,7 +17,7 @@ pub fn insn_from(row: &[u64]) -> Insn
         addr: number(row, 0),
         name: half(row, 1),
         cond: Cond(byte(row, 2)),
-        flow: flow_of(number(row, 3), word(row, 4)),
+        flow: flow_from(number(row, 3), word(row, 4)),
         ops: places_from(row),
     }
 }
@@ -29,20 +29,20 @@ fn places_from(row: &[u64]) -> [Place; PLACES]
         operand: Operand::Empty,
     };
     let mut ops = [none; PLACES];
-    let mut n = 0;
-    while n < PLACES {
+    // By number, which also says where the row has it.
+    for n in 0..PLACES {
         let p = 5 + 11 * n;
         if number(row, p) != 0 {
             ops[n] = Place {
                 operand: operand_from(row, p),
             };
         }
-        n += 1;
     }
     ops
 }
 
 /// The operand whose numbers start at place `p`.
+/// The row and the place go as two, here and below, as the definitions have them; a row may end anywhere.
 fn operand_from(row: &[u64], p: usize) -> Operand
     requires { p < 64 }
     ensures { result ≡ operand_from row.now p }
@@ -59,16 +59,16 @@ fn operand_as(kind: u64, row: &[u64], p: usize) -> Operand
         1 => Operand::Register(reg_from(row, p + 1)),
         2 => Operand::Shifted(
             reg_from(row, p + 1),
-            shift_from(row, p + 2),
+            shift_from(number(row, p + 2)),
             byte(row, p + 3),
         ),
-        3 => Operand::ShiftBy(shift_from(row, p + 2), reg_from(row, p + 1)),
-        4 => Operand::SaturateShift(shift_from(row, p + 2), byte(row, p + 3)),
+        3 => Operand::ShiftBy(shift_from(number(row, p + 2)), reg_from(row, p + 1)),
+        4 => Operand::SaturateShift(shift_from(number(row, p + 2)), byte(row, p + 3)),
         5 => Operand::Rotate(byte(row, p + 3)),
         6 => Operand::Count(signed_from(row, p + 4)),
         7 => Operand::Number(word(row, p + 5)),
         8 => Operand::StatusMask(byte(row, p + 3)),
-        9 => Operand::StatusSource(status_from(row, p + 2)),
+        9 => Operand::StatusSource(status_from(number(row, p + 2))),
         10 => Operand::WriteBack(reg_from(row, p + 1)),
         11 => Operand::List(half(row, p + 5)),
         12 => Operand::Address(word(row, p + 5)),
@@ -88,25 +88,25 @@ fn mem_from(row: &[u64], p: usize) -> Mem
         base: reg_from(row, p + 1),
         index: index_from(row, p),
         disp: signed_from(row, p + 4),
-        mode: mode_from(row, p + 7),
+        mode: mode_from(number(row, p + 7)),
         size: byte(row, p + 8),
         decimal: mark(row, p + 9),
         minus_zero: mark(row, p + 10),
     }
 }
 
-fn index_from(row: &[u64], p: usize) -> Index
+fn index_from(row: &[u64], p: usize) -> Option<(Reg, u8)>
     requires { p < 64 }
     ensures { result ≡ index_from row.now p }
 {
     if mark(row, p + 2) {
-        Index::Left(reg_from(row, p + 6), byte(row, p + 3))
+        Some((reg_from(row, p + 6), byte(row, p + 3)))
     } else {
-        Index::Absent
+        None
     }
 }
 
-fn flow_of(n: u64, target: u32) -> Flow
+fn flow_from(n: u64, target: u32) -> Flow
     ensures { result ≡ flow_from n target }
 {
     match n {
@@ -121,13 +121,7 @@ fn flow_of(n: u64, target: u32) -> Flow
     }
 }
 
-fn shift_from(row: &[u64], n: usize) -> Shift
-    ensures { result ≡ shift_from (get_or row.now n 0) }
-{
-    shift_of(number(row, n))
-}
-
-fn shift_of(n: u64) -> Shift
+fn shift_from(n: u64) -> Shift
     ensures { result ≡ shift_from n }
 {
     match n {
@@ -138,13 +132,7 @@ fn shift_of(n: u64) -> Shift
     }
 }
 
-fn status_from(row: &[u64], n: usize) -> Status
-    ensures { result ≡ status_from (get_or row.now n 0) }
-{
-    status_of(number(row, n))
-}
-
-fn status_of(n: u64) -> Status
+fn status_from(n: u64) -> Status
     ensures { result ≡ status_from n }
 {
     match n {
@@ -153,13 +141,7 @@ fn status_of(n: u64) -> Status
     }
 }
 
-fn mode_from(row: &[u64], n: usize) -> AddrMode
-    ensures { result ≡ mode_from (get_or row.now n 0) }
-{
-    mode_of(number(row, n))
-}
-
-fn mode_of(n: u64) -> AddrMode
+fn mode_from(n: u64) -> AddrMode
     ensures { result ≡ mode_from n }
 {
     match n {
@@ -175,18 +157,7 @@ fn signed_from(row: &[u64], p: usize) -> i64
     ensures { result ≡ signed_from row.now p }
 {
     let n = number(row, p + 1) % 0x8000_0000_0000_0000;
-    if mark(row, p) {
-        complement(n)
-    } else {
-        n as i64
-    }
-}
-
-fn complement(n: u64) -> i64
-    requires { n < 2 ^ 63 }
-    ensures { result ≡ negsuc n }
-{
-    !(n as i64)
+    if mark(row, p) { !(n as i64) } else { n as i64 }
 }
 
 fn reg_from(row: &[u64], n: usize) -> Reg
@@ -223,5 +194,5 @@ fn word(row: &[u64], n: usize) -> u32
 pub fn number(row: &[u64], n: usize) -> u64
     ensures { result ≡ get_or row.now n 0 }
 {
-    if n < row.len() { row[n] } else { 0 }
+    row.get(n).copied().unwrap_or(0)
 }

@@ -12,7 +12,7 @@ use a32::decode;
 use insn::{Cond, Decoded, Insn};
 use line_names::{put_flow, put_root, put_suffix, stem};
 use line_operands::put_places;
-use text::{Written, put, put_byte, put_decimal, put_hex, put_whole};
+use text::{Written, put, put_decimal, put_hex, put_one, put_whole};
 
 /// No line takes more bytes.
 pub const MOST: usize = 96;
@@ -23,11 +23,7 @@ pub fn line(addr: u64, word: u32, out: &mut [u8]) -> Written
     ensures out_after { out.new ≡ last_of (line_of addr word) out.old }
 {
     if MOST <= out.len() {
-        let len = put_line(out, 0, addr, word);
-        return Written {
-            refusal: 0,
-            len: len,
-        };
+        return Ok(put_line(out, 0, addr, word));
     }
     let mut whole = [0u8; MOST];
     let len = put_line(&mut whole, 0, addr, word);
@@ -48,11 +44,11 @@ pub fn put_answered(out: &mut [u8], at: usize, addr: u64, word: u32, d: Decoded)
     ensures { Put out.old at (line_text addr word d) result out.new }
 {
     let at = put_address(out, at, addr);
-    let at = put_byte(out, at, b' ');
+    let at = put_one(out, at, b' ');
     let at = put_hex(out, at, word, 8);
-    let at = put_byte(out, at, b' ');
+    let at = put_one(out, at, b' ');
     let at = put_answer(out, at, d);
-    put_byte(out, at, b'\n')
+    put_one(out, at, b'\n')
 }
 
 /// The low 32 bits of an address.
@@ -67,14 +63,13 @@ fn put_answer(out: &mut [u8], at: usize, d: Decoded) -> usize
     requires { Room out.old at (answer_text d) }
     ensures { Put out.old at (answer_text d) result out.new }
 {
-    let i = d.insn;
-    if d.refusal == 0 {
-        put_insn(out, at, i)
-    } else {
-        put_refused(out, at, d.refusal)
+    match d {
+        Ok(i) => put_insn(out, at, i),
+        Err(refusal) => put_refused(out, at, refusal.number()),
     }
 }
 
+/// By its number: a `Refusal` would ask more of who calls it.
 pub fn put_refused(out: &mut [u8], at: usize, n: u8) -> usize
     requires { Room out.old at (refused_text n) }
     ensures { Put out.old at (refused_text n) result out.new }
@@ -87,13 +82,10 @@ fn put_insn(out: &mut [u8], at: usize, i: Insn) -> usize
     requires { Room out.old at (insn_text i) }
     ensures { Put out.old at (insn_text i) result out.new }
 {
-    let cond = i.cond;
-    let flow = i.flow;
-    let ops = i.ops;
-    let at = put_name(out, at, i.name, cond);
-    let at = put_places(out, at, ops);
-    let at = put_byte(out, at, b' ');
-    put_flow(out, at, flow)
+    let at = put_name(out, at, i.name, i.cond);
+    let at = put_places(out, at, i.ops);
+    let at = put_one(out, at, b' ');
+    put_flow(out, at, i.flow)
 }
 
 fn put_name(out: &mut [u8], at: usize, name: u16, cond: Cond) -> usize
@@ -106,6 +98,6 @@ fn put_name(out: &mut [u8], at: usize, name: u16, cond: Cond) -> usize
     if root == name {
         at
     } else {
-        put_byte(out, at, b'l')
+        put_one(out, at, b'l')
     }
 }

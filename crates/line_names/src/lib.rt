@@ -1,4 +1,5 @@
-//! The tables of names, and their writers. An entry takes as many bytes as its table's are wide, with spaces after its text.
+//! The tables of names, and their writers. An entry takes as many bytes as its table's are wide, with spaces after its text. All writers write by
+//! `put_entry`; each table has one of its own, whose argument's type says what the table goes by.
 #![tactic(auto)]
 
 ghost use Rattle.std.specs.Prelude.{◌≡◌};
@@ -86,12 +87,10 @@ const FLOWS: [u8; 64] = *b"\
 pub fn stem(root: u16) -> u16
     ensures { result ≡ stem_of root }
 {
-    if root == name::LDCL {
-        name::LDC
-    } else if root == name::STCL {
-        name::STC
-    } else {
-        root
+    match root {
+        name::LDCL => name::LDC,
+        name::STCL => name::STC,
+        _ => root,
     }
 }
 

@@ -1,5 +1,7 @@
 -- The bytes that cut a text or begin an operand, and the texts that hold none of them. Assumes nothing.
 use mathlib.Core.Path.{◌≡◌, refl, subst, sym, ap, ◌∙◌}
+use Rattle.insn.specs.Memory.{Index}
+use Rattle.std.specs.Prelude.{Some, None}
 use mathlib.Core.Bool.{Bool, true, false, not}
 use mathlib.Core.List.{List, [], ◌∷◌, ◌++◌}
 use Prim.Native.Nat.{ℕ, ◌<◌}
@@ -12,8 +14,6 @@ use Rattle.text.specs.Text.{bytes, decimal_of, signed_of, hex_of}
 use Rattle.insn.specs.Numbers.{shift_number}
 use Rattle.insn.specs.declared.AddrMode.{AddrMode}
 use Rattle.insn.specs.declared.AddrMode.TheVariants.{Offset, PreIndex, PostIndex}
-use Rattle.insn.specs.declared.Index.{Index}
-use Rattle.insn.specs.declared.Index.TheVariants.{Absent, Left}
 use Rattle.insn.specs.declared.Mem.{Mem}
 use Rattle.insn.specs.declared.Operand.{Operand}
 use Rattle.insn.specs.declared.Operand.TheVariants.{Empty, Register, Shifted, ShiftBy, SaturateShift, Rotate, Count, Number, StatusMask}
@@ -101,8 +101,8 @@ displacement_clean m = unfold displacement_text plain in by_test m.minus_zero (�
 
 pub index_lacks : (s : ℕ) → T (not (lacks s marks)) → T (isnt s (code "<")) → (x : Index) → Indexed x → lacks s (index_text x) ≡ true
 unfolding index_text plain
-index_lacks s mark other Absent h = clean_lacks s mark (bytes "-") refl
-index_lacks s mark other (Left r n) h =
+index_lacks s mark other None h = clean_lacks s mark (bytes "-") refl
+index_lacks s mark other (Some (r, n)) h =
     simp (
       all_cat,
       clean_lacks s mark (register_text r) (register_clean r h.0),

@@ -1,5 +1,6 @@
 -- Two words read alike at one address exactly if they have one answer: an answer's text is read back to it. Assumes nothing.
 use mathlib.Core.Path.{◌≡◌, sym, ap, ◌∙◌}
+use Rattle.word.specs.Refusal.{refused_with}
 use mathlib.Core.List.{List, []}
 use mathlib.Core.Logic.{◌↔◌}
 use Prim.Native.Nat.{ℕ, ◌<◌}
@@ -10,8 +11,8 @@ use lib.Dec.{eqb, ltb}
 use lib.ListN.{get_or}
 use Rattle.word.specs.Choice.{pick, by_test}
 use Rattle.insn.specs.Roots.{NAMES}
-use Rattle.insn.specs.Answer.{accepted, refused}
-use Rattle.insn.specs.declared.Decoded.{Decoded}
+use Rattle.insn.specs.Answer.{accepted, refused, insn_in, accepted_of}
+use Rattle.insn.specs.Answer.{Decoded}
 use Rattle.insn.specs.declared.Insn.{Insn}
 use Rattle.a32.specs.Decode.{decode_of}
 use Rattle.line_spelling.specs.Line.{insn_text, refused_text, answer_text}
@@ -35,14 +36,12 @@ refused_back addr n few = unfold answer_from in rw (nameless n addr, refused_wor
 answer_back : (addr : ℕ) (d : Decoded) → Good addr d → answer_from addr (answer_text d) ≡ d
 unfolding answer_text
 answer_back addr d good =
-    by_test (eqb d.refusal 0)
-    (λ e. rw e (taken (eqb-true d.refusal 0 e)))
-    (λ e. rw e (refused_back addr d.refusal good.refusal ∙ sym (good.empty (eqb-false d.refusal 0 e))))
+    by_test (eqb (refused_with d) 0)
+    (λ e. rw e (taken (eqb-true (refused_with d) 0 e)))
+    (λ e. rw e (refused_back addr (refused_with d) good.refusal ∙ sym (good.empty (eqb-false (refused_with d) 0 e))))
   where
-    taken : d.refusal ≡ 0 → answer_from addr (insn_text d.insn) ≡ d
-    taken ok =
-        accepted_back addr d.insn (good.formed ok)
-        ∙ ap (λ (n : ℕ). record { refusal = n; insn = d.insn }) (sym ok)
+    taken : refused_with d ≡ 0 → answer_from addr (insn_text (insn_in d)) ≡ d
+    taken ok = accepted_back addr (insn_in d) (good.formed ok) ∙ sym (accepted_of d ok)
 
 -- the text of a word's answer gives the answer back
 pub text_back : (w addr : ℕ) → answer_from addr (answer_text (decode_of w addr)) ≡ decode_of w addr

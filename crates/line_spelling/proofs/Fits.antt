@@ -1,5 +1,8 @@
 -- "a line takes at most 96 bytes". Assumes nothing.
 use mathlib.Core.Path.{◌≡◌, refl, subst, sym, ap}
+use Rattle.insn.specs.Memory.{Index}
+use Rattle.std.specs.Prelude.{Some, None}
+use Rattle.word.specs.Refusal.{refused_with}
 use mathlib.Core.Bool.{Bool, true, false}
 use mathlib.Core.List.{List, [], ◌∷◌}
 use Prim.Native.Nat.{ℕ, ◌+◌, ◌<◌, ◌≤◌}
@@ -15,10 +18,8 @@ use Rattle.insn.specs.Numbers.{shift_number, flow_number}
 use Rattle.insn.specs.declared.AddrMode.{AddrMode}
 use Rattle.insn.specs.declared.AddrMode.TheVariants.{Offset, PreIndex, PostIndex}
 use Rattle.insn.specs.declared.Cond.{Cond}
-use Rattle.insn.specs.declared.Decoded.{Decoded}
+use Rattle.insn.specs.Answer.{Decoded, insn_in}
 use Rattle.insn.specs.declared.Flow.{Flow}
-use Rattle.insn.specs.declared.Index.{Index}
-use Rattle.insn.specs.declared.Index.TheVariants.{Absent, Left}
 use Rattle.insn.specs.declared.Insn.{Insn}
 use Rattle.insn.specs.declared.Mem.{Mem}
 use Rattle.insn.specs.declared.Operand.{Operand}
@@ -56,8 +57,8 @@ flow_length flow = unfold flow_text in at_most flows 5 8 tt (flow_number flow) (
 
 index_length : (x : Index) → Indexed x → length (index_text x) ≤ 6
 unfolding index_text
-index_length Absent h = lit≤ tt
-index_length (Left r n) h = simp length-append (omega (arith, register_length r h.0, decimal_length 1 n (omega (arith, h.1))))
+index_length None h = lit≤ tt
+index_length (Some (r, n)) h = simp length-append (omega (arith, register_length r h.0, decimal_length 1 n (omega (arith, h.1))))
 
 mode_length : (mode : AddrMode) → length (mode_text mode) ≡ 1
 unfolding mode_text
@@ -136,9 +137,9 @@ refused_length n h = unfold refused_text in simp length-append (omega (arith, de
 
 answer_length : {addr : ℕ} (d : Decoded) → Good addr d → length (answer_text d) ≤ 77
 answer_length d good = unfold answer_text in
-    tested (λ (xs : List ℕ). length xs ≤ 77) (eqb d.refusal 0)
-    (λ e. insn_length d.insn (good.formed (eqb-true d.refusal 0 e)))
-    (λ e. refused_length d.refusal good.refusal)
+    tested (λ (xs : List ℕ). length xs ≤ 77) (eqb (refused_with d) 0)
+    (λ e. insn_length (insn_in d) (good.formed (eqb-true (refused_with d) 0 e)))
+    (λ e. refused_length (refused_with d) good.refusal)
 
 pub line_fits : (addr w : ℕ) → length (line_of addr w) ≤ 96
 unfolding line_text

@@ -1,5 +1,10 @@
 -- What holds of every accepted answer, as far as its text depends on it, and the laws by which the groups' rows are gone through. Assumes nothing.
-use mathlib.Core.Path.{◌≡◌, refl, sym, ◌∙◌}
+use mathlib.Core.Path.{◌≡◌, refl, sym, ap, ◌∙◌}
+use Rattle.insn.specs.Memory.{Index}
+use Rattle.std.specs.Prelude.{Some, None, Err}
+use Rattle.word.specs.Refusal.{number, refused_with, numbered_number}
+use Rattle.word.specs.declared.refusal.Refusal.{Refusal}
+use Rattle.word.specs.declared.refusal.Refusal.TheVariants.{NoRow}
 use mathlib.Core.Bool.{Bool, true, false, not}
 use mathlib.Core.List.{List, [], ◌∷◌}
 use Prim.Native.Nat.{ℕ, suc, ◌+◌, ◌*◌, ◌^◌, ◌<◌, ◌≤◌}
@@ -10,15 +15,13 @@ use lib.IntN.{pos, nat_abs}
 use lib.ListN.{length}
 use Rattle.word.specs.Choice.{pick, both, inside, tested, parts, passes, fails}
 use Rattle.word.specs.Field.{field, small}
-use Rattle.insn.specs.Answer.{PLACES, places, refused}
+use Rattle.insn.specs.Answer.{PLACES, places, refused, insn_in}
 use Rattle.insn.specs.Roots.{NAMES, name}
 use Rattle.insn.specs.Numbers.{shift_number, operand_number, flow_number}
 use Rattle.insn.specs.declared.AddrMode.{AddrMode}
-use Rattle.insn.specs.declared.Decoded.{Decoded}
+use Rattle.insn.specs.Answer.{Decoded}
 use Rattle.insn.specs.declared.Flow.{Flow}
 use Rattle.insn.specs.declared.Flow.TheVariants.{Next, Branch, CondBranch, IndirectBranch, Call, IndirectCall, Return, Trap}
-use Rattle.insn.specs.declared.Index.{Index}
-use Rattle.insn.specs.declared.Index.TheVariants.{Absent, Left}
 use Rattle.insn.specs.declared.Insn.{Insn}
 use Rattle.insn.specs.declared.Mem.{Mem}
 use Rattle.insn.specs.declared.Operand.{Operand}
@@ -43,8 +46,8 @@ abbrev pub unconditional : ℕ → ℕ → Bool
 unconditional n flow = pick (eqb n (name "blx")) (eqb flow 4) (inside (name "pld") (name "isb") n)
 
 abbrev pub Indexed : Index → Type 0
-Indexed Absent = Unit
-Indexed (Left r n) = (r.0 < 16) × (n < 32)
+Indexed None = Unit
+Indexed (Some (r, n)) = (r.0 < 16) × (n < 32)
 
 pub record Held (name : ℕ) (m : Mem) : Type 0 where
   pub base : m.base.0 < 16
@@ -138,9 +141,9 @@ pub record Formed (addr : ℕ) (i : Insn) : Type 0 where
 
 -- an answer at an address: a refusal of one digit, or a formed instruction
 pub record Good (addr : ℕ) (d : Decoded) : Type 0 where
-  pub refusal : d.refusal < 10
-  pub empty : (d.refusal ≡ 0 → ⊥) → d ≡ refused d.refusal
-  pub formed : d.refusal ≡ 0 → Formed addr d.insn
+  pub refusal : refused_with d < 10
+  pub empty : (refused_with d ≡ 0 → ⊥) → d ≡ refused (refused_with d)
+  pub formed : refused_with d ≡ 0 → Formed addr (insn_in d)
 
 -- what holds of both values holds of the one that a test picks, whatever the test
 pub either {ℓ} : {A : Type ℓ} (P : A → Type 0) (b : Bool) {x y : A} → P x → P y → P (pick b x y)
@@ -153,11 +156,16 @@ choice b {addr} = either (Good addr) b
 pub at : (n k : ℕ) {addr : ℕ} {x y : Decoded} → Good addr x → Good addr y → Good addr (pick (eqb n k) x y)
 at n k = choice (eqb n k)
 
-pub good_refusal : {addr : ℕ} (n : ℕ) → T (ltb 0 n) → T (ltb n 10) → Good addr (refused n)
-good_refusal n some few = record { refusal = lit< few; empty = λ some. refl; formed = λ ok. absurd (omega (arith, ltb→lt 0 n some)) }
+pub good_refusal : {addr : ℕ} (r : Refusal) → T (ltb 0 (number r)) → T (ltb (number r) 10) → Good addr (Err r)
+good_refusal r some few =
+    record {
+      refusal = lit< few;
+      empty = λ some. ap Err (sym (numbered_number r));
+      formed = λ ok. absurd (omega (arith, ltb→lt 0 (number r) some));
+    }
 
 pub no_row_lem : {addr : ℕ} → Good addr no_row
-no_row_lem = good_refusal 3 tt tt
+no_row_lem = good_refusal NoRow tt tt
 
 -- the register that four bits name
 pub reg : (w lo : ℕ) → field w lo 4 < 16

@@ -1,6 +1,6 @@
 -- Every answer is a refusal of one digit or a formed instruction. Assumes nothing.
 use Prim.Native.Nat.{ℕ}
-use Rattle.insn.specs.declared.Decoded.{Decoded}
+use Rattle.insn.specs.Answer.{Decoded}
 use Rattle.a32.specs.Decode.{decode_of}
 use Rattle.a32.proofs.Groups.{Group, unconditional, misc, halfword, dp_reg, multiply, sync, extra_ldst, dp_imm, ldst, ldst_index, media, block}
 use Rattle.a32.proofs.Groups.{branch, coprocessor, by_group}

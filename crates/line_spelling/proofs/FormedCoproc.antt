@@ -13,6 +13,7 @@ use Rattle.a32_shared.specs.Row.{rd, rn, rm, reg_of, answer}
 use Rattle.a32_ldst.specs.Mem.{L, is_clear, mode_of, with_disp_of}
 use Rattle.a32_coproc.specs.Coproc.{D, by_l, floating_of, coprocessor_of, co_reg_of, opcode_of, unindexed_of, register_move_of, operation_of, pair_move_of}
 use Rattle.a32_coproc.specs.Coproc.{transfer_of, generic_of, coproc_of}
+use Rattle.word.specs.declared.refusal.Refusal.TheVariants.{Coprocessor}
 use Rattle.line_spelling.proofs.Formed.{reg, Good, Under, hashed, decimal_for, good_refusal, either, choice, at, no_row_lem, row3, row5, row6}
 use Rattle.line_spelling.proofs.FormedLdst.{with_disp}
 
@@ -74,4 +75,4 @@ module _ (w addr : ℕ) (c : eqb (field w 28 4) 15 ≡ false) where
       no_row_lem))
 
   pub coproc_good : Good addr (coproc_of w addr)
-  coproc_good = choice (floating_of w) (good_refusal 2 tt tt) generic
+  coproc_good = choice (floating_of w) (good_refusal Coprocessor tt tt) generic

@@ -1,5 +1,7 @@
 -- A reader of operands, which gives an operand back that stands under its name. Assumes nothing.
 use mathlib.Core.Path.{◌≡◌, refl, subst, sym, ap, ◌∙◌}
+use Rattle.insn.specs.Memory.{Index}
+use Rattle.std.specs.Prelude.{Some, None}
 use mathlib.Core.Bool.{Bool, true, false}
 use mathlib.Core.List.{List, [], ◌∷◌, ◌++◌, append-nil, append_assoc}
 use Prim.Native.Nat.{ℕ, ◌+◌, ◌-◌, ◌^◌, ◌<◌, ◌≤◌}
@@ -18,8 +20,6 @@ use Rattle.text.specs.Text.{bytes, decimal_of, signed_of, hex_of}
 use Rattle.insn.specs.Numbers.{shift_number}
 use Rattle.insn.specs.declared.AddrMode.{AddrMode}
 use Rattle.insn.specs.declared.AddrMode.TheVariants.{Offset, PreIndex, PostIndex}
-use Rattle.insn.specs.declared.Index.{Index}
-use Rattle.insn.specs.declared.Index.TheVariants.{Absent, Left}
 use Rattle.insn.specs.declared.Mem.{Mem}
 use Rattle.insn.specs.declared.Operand.{Operand}
 use Rattle.insn.specs.declared.Operand.TheVariants.{Empty, Register, Shifted, ShiftBy, SaturateShift, Rotate, Count, Number, StatusMask}
@@ -62,9 +62,9 @@ shift_back Asr = refl
 shift_back Ror = refl
 
 abbrev index_from : List (List ℕ) → Index
-index_from [] = Absent
-index_from (r ∷ []) = Absent
-index_from (r ∷ n ∷ _) = Left (register_from r) (number_from 10 n)
+index_from [] = None
+index_from (r ∷ []) = None
+index_from (r ∷ n ∷ _) = Some ((register_from r), (number_from 10 n))
 
 mode_from : List ℕ → AddrMode
 mode_from text = pick (eqb (first text) (code "o")) Offset (pick (eqb (first text) (code "b")) PreIndex PostIndex)
@@ -288,8 +288,8 @@ module _ (name : ℕ) where
 -- the parts of a memory form
 index_back : (x : Index) → Indexed x → index_from (pieces (code "<") (index_text x)) ≡ x
 unfolding index_text
-index_back Absent h = refl
-index_back (Left r n) h =
+index_back None h = refl
+index_back (Some (r, n)) h =
     rw (
       append_assoc (register_text r) (code "<" ∷ []) (decimal_of n),
       cut_clean (code "<") tt (register_text r) (decimal_of n) (register_clean r h.0),

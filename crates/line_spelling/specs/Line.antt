@@ -1,14 +1,14 @@
 -- How a word's answer reads, and its line of the listing (01, "Section and listing").
-use Rattle.std.specs.Prelude.{List, [], ◌++◌, ℕ, eqb}
+use Rattle.std.specs.Prelude.{List, [], ◌++◌, ℕ, eqb, Some, None}
+use Rattle.insn.specs.Memory.{Index}
+use Rattle.word.specs.Refusal.{refused_with}
 use Rattle.word.specs.Choice.{pick}
 use Rattle.text.specs.Text.{bytes, decimal_of, signed_of, hex_of}
-use Rattle.insn.specs.Answer.{spread}
+use Rattle.insn.specs.Answer.{spread, insn_in}
 use Rattle.insn.specs.Numbers.{shift_number, status_number, operand_number, flow_number}
 use Rattle.insn.specs.declared.Reg.{Reg}
 use Rattle.insn.specs.declared.Cond.{Cond}
 use Rattle.insn.specs.declared.Shift.{Shift}
-use Rattle.insn.specs.declared.Index.{Index}
-use Rattle.insn.specs.declared.Index.TheVariants.{Absent, Left}
 use Rattle.insn.specs.declared.AddrMode.{AddrMode}
 use Rattle.insn.specs.declared.AddrMode.TheVariants.{Offset, PreIndex, PostIndex}
 use Rattle.insn.specs.declared.Mem.{Mem}
@@ -19,7 +19,7 @@ use Rattle.insn.specs.declared.Operand.TheVariants.{Coprocessor, CoprocessorRegi
 use Rattle.insn.specs.declared.Place.{Place}
 use Rattle.insn.specs.declared.Flow.{Flow}
 use Rattle.insn.specs.declared.Insn.{Insn}
-use Rattle.insn.specs.declared.Decoded.{Decoded}
+use Rattle.insn.specs.Answer.{Decoded}
 use Rattle.insn.specs.Roots.{name, roots}
 use Rattle.a32.specs.Decode.{decode_of}
 use Rattle.line_spelling.specs.Names.{suffixes, masks, shifts, sources, barriers, registers, coprocessors, co_registers, flows, entry}
@@ -43,8 +43,8 @@ shift_text kind = entry shifts (shift_number kind)
 
 -- "index with its shift (`r3<2`, `r3<0`) or `-`"
 unfoldable pub index_text : Index → List ℕ
-index_text Absent = bytes "-"
-index_text (Left r n) = register_text r ++ bytes "<" ++ decimal_of n
+index_text None = bytes "-"
+index_text (Some (r, n)) = register_text r ++ bytes "<" ++ decimal_of n
 
 -- "displacement (`-0` if marked)"
 unfoldable pub displacement_text : Mem → List ℕ
@@ -107,7 +107,7 @@ unfoldable pub refused_text : ℕ → List ℕ
 refused_text n = bytes "refused " ++ decimal_of n
 
 unfoldable pub answer_text : Decoded → List ℕ
-answer_text d = pick (eqb d.refusal 0) (insn_text d.insn) (refused_text d.refusal)
+answer_text d = pick (eqb (refused_with d) 0) (insn_text (insn_in d)) (refused_text (refused_with d))
 
 -- "Lines: address (low 32 bits), word, name, operands, flow .., or refusal, one space between, a newline at the end that counts"
 unfoldable pub line_text : ℕ → ℕ → Decoded → List ℕ

@@ -18,15 +18,12 @@ const MOST_OF_ONE: usize = 16_397;
 pub fn list<R: Read>(rt: &(impl Print + Eprint), from: &mut R) {
     let mut section = [0u8; MOST];
     let n = read_section(from, &mut section);
-    if n < most(&section) {
-        if !has_ended(from) {
-            let _ = rt.eprintln("the input can't be read to its end");
-            return;
-        }
+    if n < most(&section) && !has_ended(from) {
+        let _ = rt.eprintln("the input can't be read to its end");
+        return;
     }
     let mut out = [0u8; ENOUGH];
-    let written = listing(&section[..n], &mut out);
-    let len = written.len;
+    let len = listing(&section[..n], &mut out).unwrap_or(0);
     if rt.write_all(&out[..len]).is_err() {
         let _ = rt.eprintln("the listing can't be written to its end");
     }
@@ -38,10 +35,7 @@ fn read_section<R: Read>(from: &mut R, section: &mut [u8]) -> usize
     ensures { result ≤ 16911 }
 {
     let n = read_full(from, &mut section[..MOST_OF_ONE]);
-    if n < MOST_OF_ONE {
-        return n;
-    }
-    if most(section) == MOST_OF_ONE {
+    if n < MOST_OF_ONE || most(section) == MOST_OF_ONE {
         return n;
     }
     n + read_full(from, &mut section[MOST_OF_ONE..])
@@ -51,12 +45,11 @@ fn read_section<R: Read>(from: &mut R, section: &mut [u8]) -> usize
 fn most(section: &[u8]) -> usize
     requires { length section.now ≡ 16911 }
 {
-    if section[3] == 1 {
-        if section[4] == 0 {
-            return MOST_OF_ONE;
-        }
+    if section[3..5] == [1, 0] {
+        MOST_OF_ONE
+    } else {
+        MOST
     }
-    MOST
 }
 
 /// Reads until `bytes` is full, the input ends or a read fails, and gives how many bytes it put at the start. None that it read is lost.
@@ -64,6 +57,7 @@ fn read_full<R: Read>(from: &mut R, bytes: &mut [u8]) -> usize
     ensures bound { result ≤ length bytes.old }
     ensures none_lost { Consumes (R.remaining from.old) (R.remaining from.new) (take result bytes.new) }
 {
+    // No `for`: each read says how far it came.
     let mut done = 0;
     while done < bytes.len() {
         let n = read_at(from, bytes, done);
@@ -82,10 +76,7 @@ fn read_at<R: Read>(from: &mut R, bytes: &mut [u8], at: usize) -> usize
     ensures bound { at + result ≤ length bytes.new }
     ensures none_lost { Consumes (R.remaining from.old) (R.remaining from.new) (take result (drop at bytes.new)) }
 {
-    match from.read(&mut bytes[at..]) {
-        Ok(n) => n,
-        Err(_) => 0,
-    }
+    from.read(&mut bytes[at..]).unwrap_or(0)
 }
 
 /// Whether nothing is left to read. `read_full` stops at a read that fails as it does at the end, and this one tells them apart.

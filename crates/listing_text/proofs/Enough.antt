@@ -8,10 +8,11 @@ use borrow.Author.Tests.{ltb-true, ltb-false}
 use lib.Dec.{eqb, ltb}
 use lib.ListN.{length, length-append}
 use Rattle.word.specs.Choice.{by_test, tested}
+use Rattle.word.specs.Refusal.{refused_with}
 use Rattle.line_spelling.specs.Line.{refused_text}
 use Rattle.line_spelling.proofs.Digits.{decimal_length, hex_length}
 use Rattle.text.specs.Text.{decimal_of}
-use Rattle.section.specs.Section.{opened_of, places_of}
+use Rattle.section.specs.Section.{opened_of, opening_of, places_of}
 use Rattle.section.specs.declared.Opened.{Opened}
 use Rattle.section.proofs.Accepted.{opened, same_refusal, small_refusal}
 use Rattle.listing_text.specs.Listing.{header_of, named_here, refused_here, data_here, total, last_count, closing_of, listed_of, refusal_line, listing_of}
@@ -49,33 +50,33 @@ closing_short version count named refused pool h sum = unfold closing_of in
 module _ (s : List ℕ) where
   abbrev pub closing : List ℕ
   closing =
-      closing_of (opened_of s).version (opened_of s).count (total named_here (places_of s)) (total refused_here (places_of s)) (total data_here (places_of s))
+      closing_of (opening_of s).version (opening_of s).count (total named_here (places_of s)) (total refused_here (places_of s)) (total data_here (places_of s))
 
-  pub header_fits : length (header_of (opened_of s)) ≤ 20
-  header_fits = header_short (opened_of s) (omega (arith, (opened s).version)) (omega (arith, (opened s).few))
+  pub header_fits : length (header_of (opening_of s)) ≤ 20
+  header_fits = header_short (opening_of s) (omega (arith, (opened s).version)) (omega (arith, (opened s).few))
 
   pool_few : total data_here (places_of s) < 10 ^ 4
   pool_few = omega (arith, adds_up s, (opened s).few)
 
   closing_most : length closing ≤ 41 + length (decimal_of (total data_here (places_of s)))
   closing_most =
-      closing_short (opened_of s).version (opened_of s).count (total named_here (places_of s)) (total refused_here (places_of s))
+      closing_short (opening_of s).version (opening_of s).count (total named_here (places_of s)) (total refused_here (places_of s))
       (total data_here (places_of s)) (omega (arith, (opened s).few)) (adds_up s)
 
   pub closing_fits : length closing ≤ 45
   closing_fits = omega (arith, closing_most, decimal_length 3 (total data_here (places_of s)) pool_few)
 
-  pub refusal_fits : length (refusal_line (opened_of s).refusal) ≤ 11
+  pub refusal_fits : length (refusal_line (refused_with (opened_of s))) ≤ 11
   unfolding refused_text
   refusal_fits =
-      simp length-append (omega (arith, decimal_length 1 (opened_of s).refusal (rw (same_refusal s) (omega (arith, small_refusal s)))))
+      simp length-append (omega (arith, decimal_length 1 (refused_with (opened_of s)) (rw (same_refusal s) (omega (arith, small_refusal s)))))
 
-  pub listed_short : length (listed_of s) ≤ 64 + 96 * (opened_of s).count
+  pub listed_short : length (listed_of s) ≤ 64 + 96 * (opening_of s).count
   listed_short = unfold listed_of in simp length-append (omega (arith, all_short s, header_fits, closing_most, digits_short (total data_here (places_of s)) pool_few))
 
-  pub listing_short : length (listing_of s) ≤ 64 + 96 * (opened_of s).count
+  pub listing_short : length (listing_of s) ≤ 64 + 96 * (opening_of s).count
   listing_short = unfold listing_of in
-      tested (λ (text : List ℕ). length text ≤ 64 + 96 * (opened_of s).count) (eqb (opened_of s).refusal 0)
+      tested (λ (text : List ℕ). length text ≤ 64 + 96 * (opening_of s).count) (eqb (refused_with (opened_of s)) 0)
       (λ e. listed_short)
       (λ e. omega (arith, refusal_fits))
 

@@ -7,13 +7,13 @@ use native.Mathlib.Omega.{arith}
 use lib.Dec.{eqb}
 use lib.ListN.{length, take, drop, length-append, length-take, take-append-drop}
 use Rattle.word.specs.Choice.{pick}
+use Rattle.word.specs.Refusal.{refused_with}
 use Rattle.a32.specs.Decode.{decode_of}
 use Rattle.line_spelling.proofs.Fits.{line_fits}
 use Rattle.line_spelling.proofs.Digits.{hex_length}
-use Rattle.section.specs.Section.{firsts, opened_of, here_at, places_of, step_of}
+use Rattle.section.specs.Section.{firsts, opening_of, here_at, places_of, Step, step_of}
 use Rattle.section.specs.declared.Here.{Here}
 use Rattle.section.specs.declared.Here.TheVariants.{Word, Data, End}
-use Rattle.section.specs.declared.Step.{Step}
 use Rattle.section.proofs.Accepted.{opened}
 use Rattle.section.proofs.Places.{Stands, something, how_many_lem}
 use Rattle.section.proofs.Fold.{upto, before, goes_on}
@@ -23,7 +23,7 @@ use Rattle.listing_text.specs.Listing.{data_line, line_here, add_line, lines_of,
 pub data_length : (addr w : ℕ) → length (data_line addr w) ≡ 23
 data_length addr w = unfold data_line in simp length-append (omega (arith, hex_length 8 addr, hex_length 8 w))
 
-line_short : (here : Here) → length (line_here here) + data_here here ≤ 96
+pub line_short : (here : Here) → length (line_here here) + data_here here ≤ 96
 line_short (Word word address) = omega (arith, line_fits address word)
 line_short (Data word address) = omega (arith, data_length address word)
 line_short End = omega arith
@@ -34,7 +34,7 @@ at_most_one true = omega arith
 at_most_one false = omega arith
 
 pub one_named : (here : Here) → named_here here ≤ 1
-one_named (Word word address) = at_most_one (eqb (decode_of word address).refusal 0)
+one_named (Word word address) = at_most_one (eqb (refused_with (decode_of word address)) 0)
 one_named (Data word address) = omega arith
 one_named End = omega arith
 
@@ -44,7 +44,7 @@ one_data (Data word address) = omega arith
 one_data End = omega arith
 
 once : (here : Here) → Stands here → named_here here + refused_here here + data_here here ≡ 1
-once (Word word address) some = either (eqb (decode_of word address).refusal 0)
+once (Word word address) some = either (eqb (refused_with (decode_of word address)) 0)
   where
     either : (b : Bool) → pick b 1 0 + pick b 0 1 + 0 ≡ 1
     either true = refl
@@ -80,13 +80,13 @@ lines_grow (here ∷ places) text = omega (arith, lines_grow places (add_line te
 
 module _ (s : List ℕ) where
   -- "6 words 4 named 2 refused": the counts of the closing line add up
-  pub adds_up : total named_here (places_of s) + total refused_here (places_of s) + total data_here (places_of s) ≡ (opened_of s).count
-  adds_up = unfold places_of in all_once (here_at s (opened_of s)) (something s (opened_of s)) (opened_of s).count
+  pub adds_up : total named_here (places_of s) + total refused_here (places_of s) + total data_here (places_of s) ≡ (opening_of s).count
+  adds_up = unfold places_of in all_once (here_at s (opening_of s)) (something s (opening_of s)) (opening_of s).count
 
-  pub refused_rest : total refused_here (places_of s) ≡ (opened_of s).count - total named_here (places_of s) - total data_here (places_of s)
+  pub refused_rest : total refused_here (places_of s) ≡ (opening_of s).count - total named_here (places_of s) - total data_here (places_of s)
   refused_rest = omega (arith, adds_up)
 
-  pub all_short : length (lines_of (places_of s)) + total data_here (places_of s) ≤ 96 * (opened_of s).count
+  pub all_short : length (lines_of (places_of s)) + total data_here (places_of s) ≤ 96 * (opening_of s).count
   all_short = omega (arith, lines_short (places_of s) [] 0, how_many_lem s)
 
   first_short : (place : ℕ) → length (upto add_line [] s place) ≤ length (lines_of (places_of s))

@@ -3,10 +3,11 @@ use mathlib.Core.List.{List, [], ◌++◌, foldl}
 use Rattle.std.specs.Prelude.{ℕ, ◌+◌, ◌-◌, eqb}
 use Prim.Native.String.{String}
 use Rattle.word.specs.Choice.{pick}
+use Rattle.word.specs.Refusal.{refused_with}
 use Rattle.a32.specs.Decode.{decode_of}
 use Rattle.text.specs.Text.{bytes, decimal_of, hex_of}
 use Rattle.line_spelling.specs.Line.{refused_text, line_of}
-use Rattle.section.specs.Section.{opened_of, places_of}
+use Rattle.section.specs.Section.{opened_of, opening_of, places_of}
 use Rattle.section.specs.declared.Here.{Here}
 use Rattle.section.specs.declared.Here.TheVariants.{Word, Data, End}
 use Rattle.section.specs.declared.Opened.{Opened}
@@ -37,12 +38,12 @@ lines_of places = foldl add_line [] places
 
 -- how many of their words are named, how many are refused, and how many are data
 abbrev pub named_here : Here → ℕ
-named_here (Word word address) = pick (eqb (decode_of word address).refusal 0) 1 0
+named_here (Word word address) = pick (eqb (refused_with (decode_of word address)) 0) 1 0
 named_here (Data word address) = 0
 named_here End = 0
 
 abbrev pub refused_here : Here → ℕ
-refused_here (Word word address) = pick (eqb (decode_of word address).refusal 0) 0 1
+refused_here (Word word address) = pick (eqb (refused_with (decode_of word address)) 0) 0 1
 refused_here (Data word address) = 0
 refused_here End = 0
 
@@ -79,13 +80,13 @@ closes o named pool = closing_of o.version o.count named (o.count - named - pool
 -- of a section that is accepted
 unfoldable pub listed_of : List ℕ → List ℕ
 listed_of s =
-    header_of (opened_of s) ++
+    header_of (opening_of s) ++
     lines_of (places_of s) ++
-    closing_of (opened_of s).version (opened_of s).count (total named_here (places_of s)) (total refused_here (places_of s)) (total data_here (places_of s))
+    closing_of (opening_of s).version (opening_of s).count (total named_here (places_of s)) (total refused_here (places_of s)) (total data_here (places_of s))
 
 -- "A refused section prints `refused N` alone"
 abbrev pub refusal_line : ℕ → List ℕ
 refusal_line n = refused_text n ++ bytes "\n"
 
 unfoldable pub listing_of : List ℕ → List ℕ
-listing_of s = pick (eqb (opened_of s).refusal 0) (listed_of s) (refusal_line (opened_of s).refusal)
+listing_of s = pick (eqb (refused_with (opened_of s)) 0) (listed_of s) (refusal_line (refused_with (opened_of s)))

@@ -1,6 +1,7 @@
 -- The fields that the decoder and the manual's tables test, as parts of three: 27:25, 24:20 and 7:4; and proofs by a field's values.
 -- Assumes nothing.
 use mathlib.Core.Path.{◌≡◌, refl, sym, ap, ◌∙◌, subst}
+use Rattle.word.specs.Refusal.{refused_with}
 use mathlib.Core.Bool.{Bool, true, false, not}
 use mathlib.Core.List.{List}
 use Prim.Native.String.{String}
@@ -11,13 +12,13 @@ use lib.Dec.{T, leb, eqb}
 use Rattle.word.specs.Choice.{pick, both}
 use Rattle.word.specs.Every.{every, at_each}
 use Rattle.word.specs.Field.{field, small, splits, within}
-use Rattle.insn.specs.Answer.{accepted, refused, insn_of}
+use Rattle.insn.specs.Answer.{accepted, refused, insn_of, insn_in}
 use Rattle.insn.specs.Numbers.{flow_number}
 use Rattle.insn.specs.declared.Cond.{Cond}
 use Rattle.insn.specs.declared.Place.{Place}
 use Rattle.insn.specs.declared.Flow.{Flow}
 use Rattle.insn.specs.declared.Flow.TheVariants.{Next, IndirectBranch}
-use Rattle.insn.specs.declared.Decoded.{Decoded}
+use Rattle.insn.specs.Answer.{Decoded}
 use Rattle.insn.specs.declared.Insn.{Insn}
 use Rattle.a32.specs.Decode.{decode_of}
 use Rattle.manual.specs.A5.{table_row}
@@ -424,21 +425,21 @@ apart f d e h p = eqb-false (f d) (f e) h (ap f p)
 
 -- what is accepted is not refused
 pub accepts : {i : Insn} → accepted i ≡ refused 3 → ⊥
-accepts {i = i} = apart (λ (d : Decoded). d.refusal) (accepted i) (refused 3) refl
+accepts {i = i} = apart (λ (d : Decoded). refused_with d) (accepted i) (refused 3) refl
 
 pub refuses : {i : Insn} → refused 3 ≡ accepted i → ⊥
-refuses {i = i} = apart (λ (d : Decoded). d.refusal) (refused 3) (accepted i) refl
+refuses {i = i} = apart (λ (d : Decoded). refused_with d) (refused 3) (accepted i) refl
 
 -- what is called a branch does not go on
 pub branches : {a n : ℕ} {c : Cond} {o : List Place} → accepted (insn_of a n c IndirectBranch o) ≡ accepted (insn_of a n c Next o) → ⊥
 branches {a = a} {n = n} {c = c} {o = o} =
-    apart (λ (d : Decoded). flow_number d.insn.flow) (accepted (insn_of a n c IndirectBranch o)) (accepted (insn_of a n c Next o)) refl
+    apart (λ (d : Decoded). flow_number (insn_in d).flow) (accepted (insn_of a n c IndirectBranch o)) (accepted (insn_of a n c Next o)) refl
 
 -- an answer under a condition is not one under another
 pub conditions : {a n : ℕ} {c : ℕ} {f : Flow} {o : List Place} → eqb c 14 ≡ false → accepted (insn_of a n (record { 0 = c }) f o) ≡ accepted
     (insn_of a n (record { 0 = 14 }) f o) → ⊥
 conditions {a = a} {n = n} {c = c} {f = f} {o = o} =
-    apart (λ (d : Decoded). d.insn.cond.0) (accepted (insn_of a n (record { 0 = c }) f o)) (accepted (insn_of a n (record { 0 = 14 }) f o))
+    apart (λ (d : Decoded). (insn_in d).cond.0) (accepted (insn_of a n (record { 0 = c }) f o)) (accepted (insn_of a n (record { 0 = 14 }) f o))
 
 -- by the two outcomes of a test
 pub split : {A : Type 0} (b : Bool) → (b ≡ true → A) → (b ≡ false → A) → A

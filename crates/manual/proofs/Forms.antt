@@ -5,7 +5,7 @@ use lib.ListN.{get_or}
 use Rattle.word.specs.Choice.{pick}
 use Rattle.insn.specs.Memory.{base_disp}
 use Rattle.insn.specs.Numbers.{mode_number, flow_number}
-use Rattle.insn.specs.declared.Decoded.{Decoded}
+use Rattle.insn.specs.Answer.{Decoded, insn_in}
 use Rattle.insn.specs.declared.Mem.{Mem}
 use Rattle.insn.specs.declared.Operand.{Operand}
 use Rattle.insn.specs.declared.Operand.TheVariants.{Empty, Register, Shifted, ShiftBy, SaturateShift, Rotate, Count, Number, StatusMask}
@@ -35,10 +35,10 @@ memory (Coprocessor n) = none
 memory (CoprocessorRegister n) = none
 
 abbrev at : ℕ → Decoded → Mem
-at n d = memory (get_or d.insn.ops n (record { operand = Empty })).operand
+at n d = memory (get_or (insn_in d).ops n (record { operand = Empty })).operand
 
 abbrev pub flow_of : Decoded → ℕ
-flow_of d = flow_number d.insn.flow
+flow_of d = flow_number (insn_in d).flow
 
 abbrev pub mode_at : ℕ → Decoded → ℕ
 mode_at n d = mode_number (at n d).mode

@@ -1,7 +1,7 @@
 -- DDI 0406C, chapter A8: from the row that chapter A5's tables lead to, by each page's "SEE", to the page that reads the word, and what it
 -- reads. The pages stand in the order of A5's tables. A row without a page here is named and not read.
 -- Bits that a page draws in parentheses are not tested: ShouldBe has them.
-use Rattle.std.specs.Prelude.{Bool, true, false, not, List, [], ◌∷◌, ◌++◌, ℕ, ◌+◌, ◌-◌, ◌*◌, ◌%◌, ◌^◌, eqb, leb, pos}
+use Rattle.std.specs.Prelude.{Bool, true, false, not, List, [], ◌∷◌, ◌++◌, ℕ, ◌+◌, ◌-◌, ◌*◌, ◌%◌, ◌^◌, eqb, leb, pos, Some, None}
 use Prim.Native.String.{String}
 use Rattle.std.specs.Int.Count.{ones_in}
 use lib.Text.{eqt}
@@ -11,8 +11,7 @@ use Rattle.insn.specs.Answer.{insn_of, places, accepted}
 use Rattle.insn.specs.Roots.{name}
 use Rattle.insn.specs.declared.AddrMode.{AddrMode}
 use Rattle.insn.specs.declared.AddrMode.TheVariants.{Offset}
-use Rattle.insn.specs.declared.Decoded.{Decoded}
-use Rattle.insn.specs.declared.Index.TheVariants.{Absent}
+use Rattle.insn.specs.Answer.{Decoded}
 use Rattle.insn.specs.declared.Flow.{Flow}
 use Rattle.insn.specs.declared.Flow.TheVariants.{Next, Branch, CondBranch, IndirectBranch, Call, IndirectCall, Return, Trap}
 use Rattle.insn.specs.declared.Operand.{Operand}
@@ -176,7 +175,7 @@ module _ (w addr : ℕ) where
   -- its like, which are read alike with index = FALSE
   abbrev pub transfers : String → Flow → AddrMode → Bool → Said
   transfers root flow mode marked =
-      reading root flow (R w 12 ∷ memory (field w 16 4) Absent (offset w (field w 0 12)) mode size (is_post mode) marked ∷ [])
+      reading root flow (R w 12 ∷ memory (field w 16 4) None (offset w (field w 0 12)) mode size (is_post mode) marked ∷ [])
     where
       size : ℕ
       size = pick (is_set w 22) 1 4
@@ -209,7 +208,7 @@ module _ (w addr : ℕ) where
   imm8 = field w 8 4 * 2 ^ 4 + field w 0 4
 
   abbrev pub extra : String → ℕ → List Operand → AddrMode → Said
-  extra root size to mode = reading root Next (to ++ (memory (field w 16 4) Absent (offset w imm8) mode size true (is_minus_zero w imm8) ∷ []))
+  extra root size to mode = reading root Next (to ++ (memory (field w 16 4) None (offset w imm8) mode size true (is_minus_zero w imm8) ∷ []))
 
   abbrev pub extra_index : String → String → ℕ → List Operand → Said
   extra_index title root size to =
@@ -225,7 +224,7 @@ module _ (w addr : ℕ) where
   pair = R w 12 ∷ Register (record { 0 = field w 12 4 + 1 }) ∷ []
 
   abbrev pub exclusive : String → ℕ → List Operand → Said
-  exclusive root size ops = reading root Next (ops ++ (memory (field w 16 4) Absent (pos 0) Offset size false false ∷ []))
+  exclusive root size ops = reading root Next (ops ++ (memory (field w 16 4) None (pos 0) Offset size false false ∷ []))
 
   -- the status register's fields, R then mask
   abbrev pub mask : Operand
@@ -278,7 +277,7 @@ module _ (w addr : ℕ) where
       pick (both (not (is_set w 24)) (not (is_set w 21)))
       (beyond title)
       (reading_as (pick (is_set w 22) (name long) (name plain)) Next
-      (cp ∷ CR 12 ∷ memory (field w 16 4) Absent (offset w imm8_words) mode 4 false (is_minus_zero w imm8_words) ∷ []))
+      (cp ∷ CR 12 ∷ memory (field w 16 4) None (offset w imm8_words) mode 4 false (is_minus_zero w imm8_words) ∷ []))
 
   -- "MRC<c> <coproc>, #<opc1>, <Rt>, <CRn>, <CRm>{, #<opc2>}", and MCR
   abbrev pub register_move : String → Said
@@ -300,7 +299,7 @@ module _ (w addr : ℕ) where
   imm24_h = SignExtend (field w 0 24 * 4 + field w 24 1 * 2) 26
 
   abbrev pub preload : String → Said
-  preload root = reading root Next (memory (field w 16 4) Absent (offset w (field w 0 12)) Offset 1 false (is_minus_zero w (field w 0 12)) ∷ [])
+  preload root = reading root Next (memory (field w 16 4) None (offset w (field w 0 12)) Offset 1 false (is_minus_zero w (field w 0 12)) ∷ [])
 
   -- "option"
   abbrev pub barrier : String → Said

@@ -1,16 +1,15 @@
 -- Where the decoder departs from DDI 0406C: which words, by the manual's row, and what it answers. docs/DIFFERENCES.md has an entry for each,
 -- under its name.
-use Rattle.std.specs.Prelude.{Bool, true, false, not, List, [], ◌∷◌, ℕ, ◌*◌, ◌%◌, ◌^◌, eqb, ltb}
+use Rattle.std.specs.Prelude.{Bool, true, false, not, List, [], ◌∷◌, ℕ, ◌*◌, ◌%◌, ◌^◌, eqb, ltb, Some, None}
 use Prim.Native.String.{String}
 use Rattle.word.specs.Choice.{pick, both}
 use Rattle.word.specs.Field.{field}
 use Rattle.word.specs.Refusal.{NO_ROW}
-use Rattle.insn.specs.Answer.{insn_of, accepted, refused}
+use Rattle.insn.specs.Answer.{insn_of, accepted, refused, insn_in}
 use Rattle.insn.specs.Roots.{name}
 use Rattle.insn.specs.declared.AddrMode.{AddrMode}
 use Rattle.insn.specs.declared.AddrMode.TheVariants.{Offset, PreIndex, PostIndex}
-use Rattle.insn.specs.declared.Decoded.{Decoded}
-use Rattle.insn.specs.declared.Index.TheVariants.{Absent}
+use Rattle.insn.specs.Answer.{Decoded}
 use Rattle.insn.specs.declared.Flow.{Flow}
 use Rattle.insn.specs.declared.Flow.TheVariants.{Next, IndirectBranch}
 use Rattle.manual.specs.A8.{is_among, other_page_of, Said, reads, beyond, names, unlisted, undefined, unpredictable, Page, said_among, said_of}
@@ -176,10 +175,10 @@ answered unpredictable = refused NO_ROW
 
 -- an answer with another flow, and with the word's own condition
 abbrev pub branching : Decoded → Decoded
-branching d = accepted (insn_of d.insn.addr d.insn.name d.insn.cond IndirectBranch d.insn.ops)
+branching d = accepted (insn_of (insn_in d).addr (insn_in d).name (insn_in d).cond IndirectBranch (insn_in d).ops)
 
 abbrev pub conditioned : ℕ → Decoded → Decoded
-conditioned w d = accepted (insn_of d.insn.addr d.insn.name (record { 0 = field w 28 4 }) d.insn.flow d.insn.ops)
+conditioned w d = accepted (insn_of (insn_in d).addr (insn_in d).name (record { 0 = field w 28 4 }) (insn_in d).flow (insn_in d).ops)
 
 module _ (w addr : ℕ) where
   -- P and W give the mode from R[15] too; minus zero is told from zero in no offset mode
@@ -187,13 +186,13 @@ module _ (w addr : ℕ) where
   displacing root flow = transfers w addr root flow (addressing w) (both (not (is_offset (addressing w))) (is_minus_zero w (field w 0 12)))
 
   abbrev preloading : String → Said
-  preloading root = reading w addr root Next (memory (field w 16 4) Absent (offset w (field w 0 12)) Offset 1 false false ∷ [])
+  preloading root = reading w addr root Next (memory (field w 16 4) None (offset w (field w 0 12)) Offset 1 false false ∷ [])
 
   -- any P and W give a mode that writes back or has an offset, from R[15] too; minus zero is told from zero in none
   abbrev coprocessor_moving : String → String → Said
   coprocessor_moving plain long =
       reading_as w addr (pick (is_set w 22) (name long) (name plain)) Next
-      (cp w addr ∷ CR w addr 12 ∷ memory (field w 16 4) Absent (offset w (imm8_words w addr)) (addressing w) 4 false false ∷ [])
+      (cp w addr ∷ CR w addr 12 ∷ memory (field w 16 4) None (offset w (imm8_words w addr)) (addressing w) 4 false false ∷ [])
 
   -- any load to 15 is a branch
   abbrev pub port_loads : List Page

@@ -1,13 +1,12 @@
 -- DDI 0406C, chapter A8 and A2.2: the functions by which an encoding reads its operands, under the manual's names, and how what they give
 -- is set out as an answer of 01. What A8 calls UNPREDICTABLE its pages still read; where control goes then, a page does not say.
-use Rattle.std.specs.Prelude.{Bool, true, false, not, List, [], ◌∷◌, ℕ, ◌+◌, ◌-◌, ◌*◌, ◌/◌, ◌%◌, ◌^◌, eqb, ℤ, pos}
+use Rattle.std.specs.Prelude.{Bool, true, false, not, List, [], ◌∷◌, ℕ, ◌+◌, ◌-◌, ◌*◌, ◌/◌, ◌%◌, ◌^◌, eqb, ℤ, pos, Some, None}
+use Rattle.insn.specs.Memory.{Index}
 use Rattle.word.specs.Choice.{pick, both}
 use Rattle.word.specs.Field.{field}
 use Rattle.word.specs.Signed.{minus}
 use Rattle.insn.specs.declared.AddrMode.{AddrMode}
 use Rattle.insn.specs.declared.AddrMode.TheVariants.{Offset, PreIndex, PostIndex}
-use Rattle.insn.specs.declared.Index.{Index}
-use Rattle.insn.specs.declared.Index.TheVariants.{Left}
 use Rattle.insn.specs.declared.Flow.{Flow}
 use Rattle.insn.specs.declared.Flow.TheVariants.{Next, IndirectBranch, Return}
 use Rattle.insn.specs.declared.Operand.{Operand}
@@ -142,7 +141,7 @@ is_post PostIndex = true
 
 -- R[m], shifted left
 abbrev pub indexed : ℕ → ℕ → Index
-indexed m n = Left (record { 0 = m }) n
+indexed m n = Some ((record { 0 = m }), n)
 
 -- "(shift_t, shift_n) = DecodeImmShift(sh:'0', imm5)" of the saturates; a shift by none is not shown
 abbrev pub saturated_by : SRType → ℕ → Operand

@@ -6,7 +6,7 @@ use Rattle.word.specs.Choice.{both}
 use Rattle.word.specs.Field.{field}
 use Rattle.word.specs.Refusal.{NO_ROW}
 use Rattle.insn.specs.Answer.{refused}
-use Rattle.insn.specs.declared.Decoded.{Decoded}
+use Rattle.insn.specs.Answer.{Decoded}
 use Rattle.a32_coproc.specs.Coproc.{floating_of}
 use Rattle.a32.specs.Decode.{decode_of}
 use Rattle.manual.specs.A5.{table_row}

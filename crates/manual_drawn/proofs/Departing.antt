@@ -1,5 +1,6 @@
 -- Page by page: where the puts of an accepted word lie that is under a departure. Assumes nothing.
 use mathlib.Core.Path.{◌≡◌, sym, ◌∙◌}
+use Rattle.word.specs.Refusal.{refused_with}
 use mathlib.Core.Bool.{Bool, true, false, not}
 use mathlib.Core.List.{List, [], ◌∷◌, ◌++◌}
 use Prim.Native.Nat.{ℕ, ◌%◌}
@@ -8,7 +9,7 @@ use borrow.Author.Tests.{eqb-true}
 use lib.Dec.{T, eqb, ltb}
 use Rattle.word.specs.Choice.{pick, both, by_test, parts, passes}
 use Rattle.word.specs.Field.{field}
-use Rattle.insn.specs.declared.Decoded.{Decoded}
+use Rattle.insn.specs.Answer.{Decoded, insn_in}
 use Rattle.a32_imm.specs.Imm.{least_of}
 use Rattle.encode_home.specs.declared.Filler.{Filler}
 use Rattle.encode_home.specs.Home.{puts_of}
@@ -46,7 +47,7 @@ ruleset gathering = (gathers, pick_same)
 module _ (c : Filler) where
   -- an answer that is accepted puts between lo and hi
   abbrev pub puts_in : ℕ → ℕ → Decoded → Bool
-  puts_in lo hi d = pick (eqb d.refusal 0) (all (within c lo hi) (puts_of d.insn)) true
+  puts_in lo hi d = pick (eqb (refused_with d) 0) (all (within c lo hi) (puts_of (insn_in d))) true
 
   unfoldable pub fills : ℕ → ℕ → ℕ → String → Bool
   fills lo hi w s = pick (is_departure (standing_of s w)) (puts_in lo hi (answer_of w (standing_of s w) s)) true

@@ -1,5 +1,6 @@
 -- Home words are as the manual draws them, but for the exceptions, which are not. Assumes nothing.
 use mathlib.Core.Path.{◌≡◌, refl, ◌∙◌, subst}
+use Rattle.word.specs.Refusal.{refused_with}
 use mathlib.Core.Bool.{Bool, true, false, not}
 use mathlib.Core.List.{List, [], ◌∷◌}
 use Prim.Native.Nat.{ℕ}
@@ -8,7 +9,7 @@ use lib.Dec.{T, eqb}
 use Rattle.word.specs.Choice.{pick, both, by_test}
 use Rattle.word.specs.Every.{left, right}
 use Rattle.word.specs.Field.{field}
-use Rattle.insn.specs.declared.Decoded.{Decoded}
+use Rattle.insn.specs.Answer.{Decoded, insn_in}
 use Rattle.a32_coproc.specs.Coproc.{floating_of}
 use Rattle.a32.specs.Decode.{decode_of, group_of}
 use Rattle.a32_elsewhere.proofs.Elsewhere.{refused_anywhere}
@@ -73,7 +74,7 @@ answers w {d} page follows s = agrees (said_of w 0 page) s
     agrees unpredictable h = h
 answers w page (departs it) s = s.0
 
-module _ (w : ℕ) (ok : (decode_of w 0).refusal ≡ 0) where
+module _ (w : ℕ) (ok : refused_with (decode_of w 0) ≡ 0) where
   pub ranged : in_range w ≡ true
   ranged = unfold decode_of group_of in
       by_test (eqb (field w 28 4) 15)
@@ -88,15 +89,15 @@ module _ (w : ℕ) (ok : (decode_of w 0).refusal ≡ 0) where
   pub answer_is : decode_of w 0 ≡ answer_of w (standing_of (row_of w) w) (row_of w)
   answer_is = unfold row_of in answers w (page_of (table_row w) w) (standing_of (page_of (table_row w) w) w) (follows_the_manual w 0 ranged)
 
-  home_is : home_of Manual w ≡ put_all Manual (puts_of (decode_of w 0).insn) w
+  home_is : home_of Manual w ≡ put_all Manual (puts_of (insn_in (decode_of w 0))) w
   home_is = unfold home_of in simp ok
 
   at_zero : as_drawn (row_of w) (home_of Manual w) ≡ not (excepted w)
   at_zero = unfold excepted in
-      rw (home_is, answer_is) (drawn_so w (row_of w) (every_page w) (subst (λ (d : Decoded). d.refusal ≡ 0) answer_is ok))
+      rw (home_is, answer_is) (drawn_so w (row_of w) (every_page w) (subst (λ (d : Decoded). refused_with d ≡ 0) answer_is ok))
 
 -- the home word of an accepted word is as its page draws it, exactly if the word is under no exception
-pub home_as_drawn : (w addr : ℕ) → (decode_of w addr).refusal ≡ 0 → as_drawn (row_of w) (home_of Manual w) ≡ not (excepted w)
+pub home_as_drawn : (w addr : ℕ) → refused_with (decode_of w addr) ≡ 0 → as_drawn (row_of w) (home_of Manual w) ≡ not (excepted w)
 home_as_drawn w addr ok = at_zero w (refused_anywhere w 0 addr ∙ ok)
 
 -- every title that is drawn is one of A8's pages, or on its list of refused rows

@@ -1,5 +1,6 @@
 -- What the manual says of the home words of loads and stores that add a constant, preloads and coprocessor words. Assumes nothing.
 use mathlib.Core.Path.{◌≡◌, refl, sym, ap, ◌∙◌, subst}
+use Rattle.word.specs.Refusal.{refused_with}
 use mathlib.Core.Bool.{Bool, true, false}
 use mathlib.Core.List.{List, [], ◌∷◌, ◌++◌}
 use Prim.Native.Nat.{ℕ}
@@ -10,7 +11,7 @@ use lib.Dec.{T, eqb}
 use Rattle.word.specs.Choice.{pick, both, by_test, passes}
 use Rattle.word.specs.Every.{left, right}
 use Rattle.word.specs.Field.{field, put, splits, put_above, put_below}
-use Rattle.insn.specs.declared.Decoded.{Decoded}
+use Rattle.insn.specs.Answer.{Decoded, insn_in}
 use Rattle.a32.specs.Decode.{decode_of}
 use Rattle.encode_home.specs.declared.Filler.{Filler}
 use Rattle.encode_home.specs.Home.{puts_of, put_all, home_of}
@@ -56,11 +57,11 @@ of_row x is = unfold of_table in is
 table_rows : (w : ℕ) → of_table (A.coprocessor w) ≡ true
 table_rows w = unfold A.coprocessor in simp (of_either, of_row, pick_same)
 
-module _ (c : Filler) (w addr : ℕ) (ok : (decode_of w 0).refusal ≡ 0) where
+module _ (c : Filler) (w addr : ℕ) (ok : refused_with (decode_of w 0) ≡ 0) where
   abbrev pub Claim : Type 0
   Claim = SaidAs (homely w) (said_at w addr) (said_at (home_of c w) addr)
 
-  pub home_is : home_of c w ≡ put_all c (puts_of (decode_of w 0).insn) w
+  pub home_is : home_of c w ≡ put_all c (puts_of (insn_in (decode_of w 0))) w
   home_is = unfold home_of in simp ok
 
   -- pages whose words have these puts, stay, and are said the same of
@@ -75,11 +76,11 @@ module _ (c : Filler) (w addr : ℕ) (ok : (decode_of w 0).refusal ≡ 0) where
   by_pages titles ps is puts_so row says =
       rw (home_is, puts_are, row) (each_of (λ s. SaidAs (homely_as s w) (said_of w addr s) (said_of (put_all c ps w) addr s)) (row_of w) titles says is)
     where
-      puts_are : puts_of (decode_of w 0).insn ≡ ps
+      puts_are : puts_of (insn_in (decode_of w 0)) ≡ ps
       puts_are =
-          ap (λ (d : Decoded). puts_of d.insn) (answer_is w ok)
+          ap (λ (d : Decoded). puts_of (insn_in d)) (answer_is w ok)
           ∙ puts_by_lem ps _ (one_of (λ s. puts_by ps (answer_of w (standing_of s w) s)) (row_of w) titles puts_so is)
-          (subst (λ (d : Decoded). d.refusal ≡ 0) (answer_is w ok) ok)
+          (subst (λ (d : Decoded). refused_with d ≡ 0) (answer_is w ok) ok)
 
   -- ldc and stc
   pub transfers_claim : is_among (row_of w) coprocessor_transfers ≡ true → Claim

@@ -1,5 +1,6 @@
 -- What the manual says of an accepted word and of its home word agrees, but for the mark of minus zero and the unindexed form. Assumes nothing.
 use mathlib.Core.Path.{◌≡◌, refl, sym, ap, ◌∙◌, subst}
+use Rattle.word.specs.Refusal.{refused_with}
 use mathlib.Core.Bool.{Bool, true, false, not}
 use mathlib.Core.List.{List, [], ◌∷◌}
 use Prim.Native.Nat.{ℕ, ◌+◌, ◌^◌, ◌<◌}
@@ -10,7 +11,7 @@ use Rattle.word.specs.Choice.{pick, both, by_test, passes, parts}
 use Rattle.word.specs.Every.{left, right}
 use Rattle.word.specs.Field.{field, splits}
 use Rattle.word.specs.Layout.{whole}
-use Rattle.insn.specs.declared.Decoded.{Decoded}
+use Rattle.insn.specs.Answer.{Decoded, insn_in}
 use Rattle.a32.specs.Decode.{decode_of}
 use Rattle.a32_elsewhere.proofs.Elsewhere.{refused_anywhere}
 use Rattle.encode_home.specs.declared.Filler.{Filler}
@@ -59,8 +60,8 @@ based_pages w = unfold page_of in
     (λ a. by_test (one_word w 0 1 0) (λ b. simp (a, b) tt) (λ b. simp (a, b) tt))
 
 -- a word under a departure, and another that differs from it where something is put
-module _ (c : Filler) (w v addr : ℕ) (ok : (decode_of w 0).refusal ≡ 0) (dep : is_departure (standing_of (row_of w) w) ≡ true)
-    (near : (lo hi : ℕ) → T (all (within c lo hi) (puts_of (decode_of w 0).insn)) → Near lo hi w v) (same : Near 0 0 w v → w ≡ v) where
+module _ (c : Filler) (w v addr : ℕ) (ok : refused_with (decode_of w 0) ≡ 0) (dep : is_departure (standing_of (row_of w) w) ≡ true)
+    (near : (lo hi : ℕ) → T (all (within c lo hi) (puts_of (insn_in (decode_of w 0)))) → Near lo hi w v) (same : Near 0 0 w v → w ≡ v) where
   filled : (lo hi : ℕ) → T (fills c lo hi w (row_of w)) → Near lo hi w v
   filled lo hi t = near lo hi (simp ok at (subst (λ (d : Decoded). T (puts_in c lo hi d)) (sym (answer_is w ok)) answer))
     where
@@ -118,26 +119,26 @@ module _ (c : Filler) (w v addr : ℕ) (ok : (decode_of w 0).refusal ≡ 0) (dep
       kept : table_row w ≡ table_row v
       kept = let (above, below) = of_list 23 24 titles t is in kept_row based _ _ (based_rows w v above below) (rw table (passes _ among))
 
-module _ (c : Filler) (w addr : ℕ) (bound : w < 2 ^ 32) (ok : (decode_of w 0).refusal ≡ 0) where
+module _ (c : Filler) (w addr : ℕ) (bound : w < 2 ^ 32) (ok : refused_with (decode_of w 0) ≡ 0) where
   abbrev home : ℕ
   home = home_of c w
 
   same_answer : decode_of home 0 ≡ decode_of w 0
   same_answer = home_decodes c w 0 bound
 
-  near_home : (lo hi : ℕ) → T (all (within c lo hi) (puts_of (decode_of w 0).insn)) → Near lo hi w home
-  near_home lo hi t = subst (λ (x : ℕ). Near lo hi w x) (sym (home_is c w 0 ok)) (near_put c lo hi (puts_of (decode_of w 0).insn) t w)
+  near_home : (lo hi : ℕ) → T (all (within c lo hi) (puts_of (insn_in (decode_of w 0)))) → Near lo hi w home
+  near_home lo hi t = subst (λ (x : ℕ). Near lo hi w x) (sym (home_is c w 0 ok)) (near_put c lo hi (puts_of (insn_in (decode_of w 0))) t w)
 
-  back_home : (lo hi : ℕ) → T (all (within c lo hi) (puts_of (decode_of home 0).insn)) → Near lo hi home w
+  back_home : (lo hi : ℕ) → T (all (within c lo hi) (puts_of (insn_in (decode_of home 0)))) → Near lo hi home w
   back_home lo hi t =
-      near_back lo hi w home (near_home lo hi (subst (λ (d : Decoded). T (all (within c lo hi) (puts_of d.insn))) same_answer t))
+      near_back lo hi w home (near_home lo hi (subst (λ (d : Decoded). T (all (within c lo hi) (puts_of (insn_in d)))) same_answer t))
 
   -- a coprocessor word's home word is one
   abbrev coprocessor : ℕ → Bool
   coprocessor v = both (not (eqb (field v 28 4) 15)) (eqb (field v 26 2) 3)
 
   group : field home 26 2 ≡ field w 26 2
-  group = rw (home_is c w 0 ok, splits (put_all c (puts_of (decode_of w 0).insn) w) 26 1 1, splits w 26 1 1) (simp (untouched c 27, untouched c 26))
+  group = rw (home_is c w 0 ok, splits (put_all c (puts_of (insn_in (decode_of w 0))) w) 26 1 1, splits w 26 1 1) (simp (untouched c 27, untouched c 26))
 
   module _ (outside : coprocessor w ≡ false) (d : is_among (row_of w) displaced ≡ false) (p : is_among (row_of w) preloads ≡ false)
       (t : is_among (row_of w) coprocessor_transfers ≡ false) (dep : is_departure (standing_of (row_of w) w) ≡ false) where
@@ -151,8 +152,8 @@ module _ (c : Filler) (w addr : ℕ) (bound : w < 2 ^ 32) (ok : (decode_of w 0).
         (λ is. absurd (no_transfer home (rw (home_condition c w, group) outside) (of_table is))) λ t'.
         sym (said_alike c home w addr ok' there back_home same d' p' t')
       where
-        ok' : (decode_of home 0).refusal ≡ 0
-        ok' = ap (λ (d : Decoded). d.refusal) same_answer ∙ ok
+        ok' : refused_with (decode_of home 0) ≡ 0
+        ok' = ap (λ (d : Decoded). refused_with d) same_answer ∙ ok
 
         same : Near 0 0 home w → home ≡ w
         same = alike_words home w (home_small c w bound) bound
@@ -188,6 +189,6 @@ module _ (c : Filler) (w addr : ℕ) (bound : w < 2 ^ 32) (ok : (decode_of w 0).
       unfold homely_as in simp (d, p, t) (others_claim outside d p t)
 
 -- of every accepted word, and of its home word, the manual says the same, but for the mark of minus zero and the unindexed form
-pub home_reads : (c : Filler) (w addr : ℕ) → w < 2 ^ 32 → (decode_of w addr).refusal ≡ 0
+pub home_reads : (c : Filler) (w addr : ℕ) → w < 2 ^ 32 → refused_with (decode_of w addr) ≡ 0
     → SaidAs (homely w) (said_at w addr) (said_at (home_of c w) addr)
 home_reads c w addr bound ok = claim c w addr bound (refused_anywhere w 0 addr ∙ ok)

@@ -1,5 +1,6 @@
 -- A word and its home word differ where something is put. Assumes nothing.
 use mathlib.Core.Path.{◌≡◌, refl, sym, ap, ◌∙◌}
+use Rattle.word.specs.Refusal.{refused_with}
 use mathlib.Core.Bool.{Bool, true, false}
 use mathlib.Core.List.{List, [], ◌∷◌, ◌++◌}
 use Prim.Native.Nat.{ℕ, ◌+◌, ◌^◌, ◌≤◌}
@@ -9,7 +10,7 @@ use lib.Dec.{T, eqb, leb, ltb}
 use Rattle.word.specs.Choice.{pick, both, by_test, passes, parts}
 use Rattle.word.specs.Every.{left, right}
 use Rattle.word.specs.Field.{field, put, put_above, put_below}
-use Rattle.insn.specs.declared.Decoded.{Decoded}
+use Rattle.insn.specs.Answer.{Decoded, insn_in}
 use Rattle.encode_home.specs.declared.Filler.{Filler}
 use Rattle.encode_home.specs.Home.{puts_of, put_all}
 use Rattle.encode_home.specs.Table.{Fill, clear, set, drawn, Put, value}
@@ -104,7 +105,7 @@ same_puts_lem (p ∷ ps) (q ∷ qs) t =
 
 -- an answer that is accepted puts these
 abbrev pub puts_by : List Put → Decoded → Bool
-puts_by ps d = pick (eqb d.refusal 0) (same_puts (puts_of d.insn) ps) true
+puts_by ps d = pick (eqb (refused_with d) 0) (same_puts (puts_of (insn_in d)) ps) true
 
-pub puts_by_lem : (ps : List Put) (d : Decoded) → T (puts_by ps d) → d.refusal ≡ 0 → puts_of d.insn ≡ ps
-puts_by_lem ps d t ok = same_puts_lem (puts_of d.insn) ps (simp ok at t)
+pub puts_by_lem : (ps : List Put) (d : Decoded) → T (puts_by ps d) → refused_with d ≡ 0 → puts_of (insn_in d) ≡ ps
+puts_by_lem ps d t ok = same_puts_lem (puts_of (insn_in d)) ps (simp ok at t)

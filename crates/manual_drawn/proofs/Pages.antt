@@ -1,5 +1,6 @@
 -- Page by page: the home word of an accepted word is as the page draws it, exactly if the word is under no exception. Assumes nothing.
 use mathlib.Core.Path.{◌≡◌, refl, sym, ◌∙◌, subst}
+use Rattle.word.specs.Refusal.{refused_with}
 use mathlib.Core.Bool.{Bool, true, false, not}
 use mathlib.Core.List.{List, [], ◌∷◌, ◌++◌}
 use Prim.Native.Nat.{ℕ, ◌+◌, ◌*◌, ◌%◌, ◌^◌}
@@ -12,7 +13,7 @@ use lib.Text.{eqt, eqt→eq}
 use Rattle.word.specs.Choice.{pick, both, by_test, passes}
 use Rattle.word.specs.Field.{field, small, splits}
 use Rattle.insn.specs.Roots.{name}
-use Rattle.insn.specs.declared.Decoded.{Decoded}
+use Rattle.insn.specs.Answer.{Decoded, insn_in}
 use Rattle.insn.specs.declared.Insn.{Insn}
 use Rattle.a32_imm.specs.Imm.{least_of}
 use Rattle.encode_home.specs.declared.Filler.TheVariants.{Manual}
@@ -38,13 +39,13 @@ answer_of w (departs it) page = port_of w 0 it (table_row w) page
 
 -- where it is accepted, the home word is as drawn, exactly if the word is under no exception
 unfoldable pub drawn_but : ℕ → String → Bool
-drawn_but w s = pick (eqb d.refusal 0) (same (as_drawn s (put_all Manual (puts_of d.insn) w)) (not (excepted_as s w))) true
+drawn_but w s = pick (eqb (refused_with d) 0) (same (as_drawn s (put_all Manual (puts_of (insn_in d)) w)) (not (excepted_as s w))) true
   where
     d : Decoded
     d = answer_of w (standing_of s w) s
 
-pub drawn_so : (w : ℕ) (s : String) → T (drawn_but w s) → (answer_of w (standing_of s w) s).refusal ≡ 0
-    → as_drawn s (put_all Manual (puts_of (answer_of w (standing_of s w) s).insn) w) ≡ not (excepted_as s w)
+pub drawn_so : (w : ℕ) (s : String) → T (drawn_but w s) → refused_with (answer_of w (standing_of s w) s) ≡ 0
+    → as_drawn s (put_all Manual (puts_of (insn_in (answer_of w (standing_of s w) s))) w) ≡ not (excepted_as s w)
 drawn_so w s t ok = unfold drawn_but in same→eq _ _ (simp ok at t)
 
 -- titles that are shown alike: a name by bit 20; by bits 5 and 6; one name
@@ -180,7 +181,7 @@ module _ (w : ℕ) where
 
   -- B9.3.20: what the page would put, were there no SUBS PC, LR
   abbrev move_drawn : String → Bool
-  move_drawn row = as_drawn returns (put_all Manual (puts_of (answered (said_of w 0 (other_page_of row w))).insn) w)
+  move_drawn row = as_drawn returns (put_all Manual (puts_of (insn_in (answered (said_of w 0 (other_page_of row w))))) w)
 
   abbrev is_move : ℕ → Bool
   is_move v = both (is_set v 24) (both (is_set v 23) (is_set v 21))

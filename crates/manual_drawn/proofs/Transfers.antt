@@ -10,7 +10,7 @@ use lib.Dec.{T, eqb, leb}
 use lib.Text.{eqt, eqt→eq}
 use Rattle.word.specs.Choice.{pick, by_test}
 use Rattle.word.specs.Field.{field, put, small, splits, put_above, put_below}
-use Rattle.insn.specs.declared.Decoded.{Decoded}
+use Rattle.insn.specs.Answer.{Decoded}
 use Rattle.encode_home.specs.declared.Filler.{Filler}
 use Rattle.encode_home.specs.Home.{puts_of, put_all}
 use Rattle.encode_home.specs.Table as H

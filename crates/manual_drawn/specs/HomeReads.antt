@@ -4,7 +4,7 @@ use Rattle.std.specs.Prelude.{◌≡◌, Bool, false, not, map, ℕ, ◌*◌, �
 use Prim.Native.String.{String}
 use Rattle.word.specs.Choice.{pick, both}
 use Rattle.word.specs.Field.{field}
-use Rattle.insn.specs.Answer.{insn_of, accepted}
+use Rattle.insn.specs.Answer.{insn_of, accepted, insn_in}
 use Rattle.insn.specs.declared.Mem.{Mem}
 use Rattle.insn.specs.declared.Operand.{Operand}
 use Rattle.insn.specs.declared.Operand.TheVariants.{Empty, Register, Shifted, ShiftBy, SaturateShift, Rotate, Count, Number, StatusMask}
@@ -70,7 +70,7 @@ abbrev unmarked_place : Place → Place
 unmarked_place p = record { operand = unmarked_op p.operand }
 
 abbrev pub unmarked : Said → Said
-unmarked (reads d) = reads (accepted (insn_of d.insn.addr d.insn.name d.insn.cond d.insn.flow (map unmarked_place d.insn.ops)))
+unmarked (reads d) = reads (accepted (insn_of (insn_in d).addr (insn_in d).name (insn_in d).cond (insn_in d).flow (map unmarked_place (insn_in d).ops)))
 unmarked (beyond s) = beyond s
 unmarked (names s) = names s
 unmarked unlisted = unlisted

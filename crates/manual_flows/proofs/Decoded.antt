@@ -1,15 +1,12 @@
 -- The flow of a word's row is the decoder's, but for three departures. Assumes nothing.
-use mathlib.Core.Path.{◌≡◌, refl, sym, ap, ◌∙◌}
-use mathlib.Core.Bool.{Bool, true, false}
-use mathlib.Core.List.{List, [], ◌∷◌}
-use Prim.Native.Nat.{ℕ}
+use Rattle.std.proofs.Common.{◌≡◌, refl, sym, ap, ◌∙◌, Bool, true, false, List, [], ◌∷◌, ℕ, T, eqb}
+use Rattle.word.specs.Refusal.{refused_with}
 use Prim.Native.String.{String}
-use lib.Dec.{T, eqb}
 use lib.Text.{eqt}
 use Rattle.word.specs.Choice.{pick, both, by_test, parts, passes}
 use Rattle.word.specs.Field.{field}
-use Rattle.insn.specs.Answer.{refused}
-use Rattle.insn.specs.declared.Decoded.{Decoded}
+use Rattle.insn.specs.Answer.{refused, insn_in}
+use Rattle.insn.specs.Answer.{Decoded}
 use Rattle.insn.specs.declared.Flow.TheVariants.{Next, IndirectBranch}
 use Rattle.a32.specs.Decode.{decode_of}
 use Rattle.a32_elsewhere.proofs.Elsewhere.{refused_anywhere}
@@ -53,7 +50,7 @@ module _ (w addr : ℕ) where
 
   -- an answer that is accepted goes as c says
   abbrev Goes : Control → Decoded → Type 0
-  Goes c d = d.refusal ≡ 0 → goes d.insn.flow ≡ c
+  Goes c d = refused_with d ≡ 0 → goes (insn_in d).flow ≡ c
 
   -- what a page reads, where its title goes as c says
   page_flows : (title : String) {c : Control} → control title ≡ c → Goes c (answered (said_of w addr title))
@@ -133,7 +130,7 @@ module _ (w addr : ℕ) where
     So d s = Kept s → StandsAs s (table_row w) row w addr d → Goes (control row) d
 
     told : {A : Type 0} {d x : Decoded} → Goes (control row) x → (d ≡ x) × A → Goes (control row) d
-    told h (e, a) ok = ap (λ (d : Decoded). goes d.insn.flow) e ∙ h (sym (ap (λ (d : Decoded). d.refusal) e) ∙ ok)
+    told h (e, a) ok = ap (λ (d : Decoded). goes (insn_in d).flow) e ∙ h (sym (ap (λ (d : Decoded). refused_with d) e) ∙ ok)
 
     none : Goes (control row) (refused 3)
     none ok = refusal ok
@@ -166,7 +163,7 @@ module _ (w addr : ℕ) where
         (λ is k s. told none s) also
         (λ is k s. told none s) also
         (λ is k s. told (page_flows _ (sym (same_at control (λ t. control "MSR (immediate)") row hints (unfold control_as in refl) is))) s) also
-        (λ is k s. told (λ ok. same_at (λ t. goes (conditioned w (answered (said_of w addr t))).insn.flow) control row ("BKPT" ∷ "UDF" ∷ [])
+        (λ is k s. told (λ ok. same_at (λ t. goes (insn_in (conditioned w (answered (said_of w addr t)))).flow) control row ("BKPT" ∷ "UDF" ∷ [])
         (unfold control_as said_of in refl) is) s) also
         (λ is k s. told none s) also
         (λ is k s. told (port_flows preloads tt is) s) also
@@ -182,7 +179,7 @@ module _ (w addr : ℕ) where
         subs_flow e = returns_flow e ∙ sym (ap control e ∙ returns_control)
 
     -- also where a page says UNPREDICTABLE of a destination
-    pub flow_is : (decode_of w addr).refusal ≡ 0 → goes (decode_of w addr).insn.flow ≡ control row
+    pub flow_is : refused_with (decode_of w addr) ≡ 0 → goes (insn_in (decode_of w addr)).flow ≡ control row
     flow_is ok = unfold standing_of in
         by_standing (So (decode_of w addr)) row (coverings w)
         (λ k s. λ ok. agreed_so (decode_of w addr) (said_of w addr row) (control row) s ok ∙ page_goes w addr row) (each_covering (decode_of w addr))
@@ -192,6 +189,6 @@ module _ (w addr : ℕ) where
         stands = unfold row_of in follows_the_manual w addr (ranged w (refused_anywhere w 0 addr ∙ ok))
 
 -- of an accepted word control goes as the decoder's flow says, but under three departures, and where nothing is said
-pub as_decoded : (w addr : ℕ) → (decode_of w addr).refusal ≡ 0 → Kept (standing_of (row_of w) w)
-    → control_of w addr ≡ pick (opens (row_of w) w) unknown (goes (decode_of w addr).insn.flow)
+pub as_decoded : (w addr : ℕ) → refused_with (decode_of w addr) ≡ 0 → Kept (standing_of (row_of w) w)
+    → control_of w addr ≡ pick (opens (row_of w) w) unknown (goes (insn_in (decode_of w addr)).flow)
 as_decoded w addr ok kept = unfold control_of in rw (flow_is w addr kept ok)

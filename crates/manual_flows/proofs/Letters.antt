@@ -1,14 +1,6 @@
 -- Kinds of titles: an array of letters holds them by the titles' numbers, and what a kind tells. Assumes nothing.
-use mathlib.Core.Path.{◌≡◌, ap, sym, ◌∙◌}
-use mathlib.Core.Bool.{true, false}
-use mathlib.Core.List.{List}
-use Prim.Native.Nat.{ℕ, ◌+◌, ◌-◌, ◌≤◌, ◌<◌}
-use native.Mathlib.Nat.{zero-add}
-use native.Mathlib.Omega.{arith}
+use Rattle.std.proofs.Common.{◌≡◌, ap, sym, ◌∙◌, true, false, List, ℕ, ◌+◌, ◌-◌, ◌≤◌, ◌<◌, zero-add, arith, ne_eqb, eqb, get_or}
 use Prim.Native.String.{String}
-use borrow.Author.Tests.{ne_eqb}
-use lib.Dec.{eqb}
-use lib.ListN.{get_or}
 use lib.Text.{eqt}
 use Rattle.word.specs.Field.{field}
 use Rattle.insn.specs.Numbers.{flow_number}

@@ -1,13 +1,10 @@
 -- The flow of what a page reads is that of its title: one law over a list of pages. Assumes nothing.
-use mathlib.Core.Path.{◌≡◌, refl, sym, ap, ◌∙◌, subst}
-use mathlib.Core.Bool.{Bool, true, false}
-use mathlib.Core.List.{List, [], ◌∷◌, map}
-use Prim.Native.Nat.{ℕ}
+use Rattle.std.proofs.Common.{◌≡◌, refl, sym, ap, ◌∙◌, subst, Bool, true, false, List, [], ◌∷◌, map, ℕ, T}
+use Rattle.word.specs.Refusal.{refused_with}
 use Prim.Native.String.{String}
-use lib.Dec.{T}
 use lib.Text.{eqt, eqt→eq}
 use Rattle.word.specs.Choice.{pick, by_test}
-use Rattle.insn.specs.declared.Decoded.{Decoded}
+use Rattle.insn.specs.Answer.{Decoded, insn_in}
 use Rattle.encode_home.proofs.Leads.{refusal}
 use Rattle.manual.specs.A8.{Said, reads, beyond, names, unlisted, undefined, unpredictable, is_among, Page, pages, said_among, said_of}
 use Rattle.manual.specs.Departures.{answered, port_loads}
@@ -18,7 +15,7 @@ use Rattle.manual_flows.specs.Flows.{Control, goes, control_as}
 
 -- how control goes by what is read, and as c where nothing is
 abbrev pub read_by : Said → Control → Control
-read_by (reads d) c = goes d.insn.flow
+read_by (reads d) c = goes (insn_in d).flow
 read_by (beyond s) c = c
 read_by (names s) c = c
 read_by unlisted c = c
@@ -81,7 +78,7 @@ module _ (w addr : ℕ) where
   port_goes title = among port_control title (port_loads w addr) (unfold control_as in simp (read_either, pick_same))
 
 -- an answer that is accepted is what is read
-pub answered_so : (s : Said) (c : Control) → (answered s).refusal ≡ 0 → goes (answered s).insn.flow ≡ read_by s c
+pub answered_so : (s : Said) (c : Control) → refused_with (answered s) ≡ 0 → goes (insn_in (answered s)).flow ≡ read_by s c
 answered_so (reads d) c ok = refl
 answered_so (beyond s) c ok = refusal ok
 answered_so (names s) c ok = refusal ok
@@ -89,10 +86,10 @@ answered_so unlisted c ok = refusal ok
 answered_so undefined c ok = refusal ok
 answered_so unpredictable c ok = refusal ok
 
-pub agreed_so : (d : Decoded) (s : Said) (c : Control) → Agrees s d → d.refusal ≡ 0 → goes d.insn.flow ≡ read_by s c
-agreed_so d (reads a) c h ok = ap (λ (d : Decoded). goes d.insn.flow) h
+pub agreed_so : (d : Decoded) (s : Said) (c : Control) → Agrees s d → refused_with d ≡ 0 → goes (insn_in d).flow ≡ read_by s c
+agreed_so d (reads a) c h ok = ap (λ (d : Decoded). goes (insn_in d).flow) h
 agreed_so d (beyond s) c h ok = absurd h
-agreed_so d (names s) c h ok = refusal (sym (ap (λ (d : Decoded). d.refusal) h) ∙ ok)
+agreed_so d (names s) c h ok = refusal (sym (ap (λ (d : Decoded). refused_with d) h) ∙ ok)
 agreed_so d unlisted c h ok = absurd h
-agreed_so d undefined c h ok = refusal (sym (ap (λ (d : Decoded). d.refusal) h) ∙ ok)
-agreed_so d unpredictable c h ok = refusal (sym (ap (λ (d : Decoded). d.refusal) h) ∙ ok)
+agreed_so d undefined c h ok = refusal (sym (ap (λ (d : Decoded). refused_with d) h) ∙ ok)
+agreed_so d unpredictable c h ok = refusal (sym (ap (λ (d : Decoded). refused_with d) h) ∙ ok)

@@ -1,5 +1,5 @@
 -- No second result fits a contract. Each line is about the contract itself, as the check reads it from the source. Assumes nothing.
-use mathlib.Core.Path.{◌∙◌, sym}
+use Rattle.std.proofs.Common.{◌∙◌, sym}
 use Rattle.word.specs.Only.{Only}
 use Rattle.manual_flows.proofs.flow_of.Reads as flow_of
 

@@ -38,10 +38,7 @@ pub fn flow_of(w: u32) -> u8
     ensures { F.Tells result (F.control_of w) }
 {
     let n = brassdozen_manual_row(w);
-    if opens(w, n) {
-        return UNKNOWN;
-    }
-    number(w, n)
+    if opens(w, n) { UNKNOWN } else { number(w, n) }
 }
 
 /// Whether nothing is said of a word with the title numbered `n`.

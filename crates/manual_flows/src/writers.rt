@@ -64,46 +64,21 @@ const MOV_REGISTER: u16 = 15;
 pub fn number_by(w: u32, kind: u8) -> u8
     ensures { F.Tells result (λ (addr : ℕ). F.control_by w addr kind) }
 {
-    if kind == 0 {
-        return NEXT;
+    match kind {
+        0 => NEXT,
+        RESULT => written(w),
+        MOVE => moved(w),
+        EXCHANGE => to_register(w),
+        JAZELLE => INDIRECT,
+        LINK => INDIRECT_CALL,
+        LOADS => loads(w),
+        TO_LABEL => branches(w),
+        CALLS | CALLS_THUMB => CALL,
+        RETURNS => RETURN,
+        TRAPS => TRAP,
+        SERVED => OTHER_MODE,
+        _ => restores(w),
     }
-    if kind == RESULT {
-        return written(w);
-    }
-    if kind == MOVE {
-        return moved(w);
-    }
-    if kind == EXCHANGE {
-        return to_register(w);
-    }
-    if kind == JAZELLE {
-        return INDIRECT;
-    }
-    if kind == LINK {
-        return INDIRECT_CALL;
-    }
-    if kind == LOADS {
-        return loads(w);
-    }
-    if kind == TO_LABEL {
-        return branches(w);
-    }
-    if kind == CALLS {
-        return CALL;
-    }
-    if kind == CALLS_THUMB {
-        return CALL;
-    }
-    if kind == RETURNS {
-        return RETURN;
-    }
-    if kind == TRAPS {
-        return TRAP;
-    }
-    if kind == SERVED {
-        return OTHER_MODE;
-    }
-    restores(w)
 }
 
 /// "if d == 15 then ALUWritePC(result)".
@@ -124,10 +99,7 @@ fn to_register(w: u32) -> u8
 fn moved(w: u32) -> u8
     ensures { result ≡ flow_number (pick (is_pc w 12) (branches_to (field w 0 4)) Next) }
 {
-    if is_pc(w, 12) {
-        return to_register(w);
-    }
-    NEXT
+    if is_pc(w, 12) { to_register(w) } else { NEXT }
 }
 
 /// "if registers<15> == '1' then LoadWritePC(..)".
@@ -135,10 +107,13 @@ fn loads(w: u32) -> u8
     ensures { result ≡ flow_number (loads_pc w 0) }
 {
     let rn = column(w, 19, 16);
-    if is_set(w, 15) {
-        return if rn == 13 { RETURN } else { INDIRECT };
+    if !is_set(w, 15) {
+        NEXT
+    } else if rn == 13 {
+        RETURN
+    } else {
+        INDIRECT
     }
-    NEXT
 }
 
 fn branches(w: u32) -> u8
@@ -153,7 +128,8 @@ fn restores(w: u32) -> u8
     ensures { result ≡ flow_number (F.restores w 0) }
 {
     if table_row(w) == MOV_REGISTER {
-        return to_register(w);
+        to_register(w)
+    } else {
+        INDIRECT
     }
-    INDIRECT
 }

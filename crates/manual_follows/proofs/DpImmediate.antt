@@ -8,7 +8,7 @@ use borrow.Author.Tests.{eqb-true}
 use lib.Dec.{eqb}
 use Rattle.word.specs.Field.{field}
 use Rattle.insn.specs.Roots.{name}
-use Rattle.insn.specs.declared.Decoded.{Decoded}
+use Rattle.insn.specs.Answer.{Decoded, insn_in}
 use Rattle.insn.specs.declared.Flow.TheVariants.{Next}
 use Rattle.insn.specs.declared.Operand.{Operand}
 use Rattle.a32_imm.specs.Imm.{imm_of}
@@ -90,19 +90,19 @@ module _ (w addr : ℕ) (cond : eqb (field w 28 4) 15 ≡ false) (group : field 
         (λ g. simp (here, cond, group, e, s, n, d, h0, h1, h2, h3, h4, g) (holds (simp d)))))))))
         (λ d. split (eqb (field w 0 8) 0)
         (λ h. simp (here, cond, group, e, s, n, d, eqb-true (field w 0 8) 0 h) (holds (simp (tops, e, n, d, constant_is)
-        (refl, apart (λ (x : Decoded). x.insn.name) _ _ refl))))
+        (refl, apart (λ (x : Decoded). (insn_in x).name) _ _ refl))))
         (λ h0. split (eqb (field w 0 8) 1)
         (λ h. simp (here, cond, group, e, s, n, d, eqb-true (field w 0 8) 1 h) (holds (simp (tops, e, n, d, constant_is)
-        (refl, apart (λ (x : Decoded). x.insn.name) _ _ refl))))
+        (refl, apart (λ (x : Decoded). (insn_in x).name) _ _ refl))))
         (λ h1. split (eqb (field w 0 8) 2)
         (λ h. simp (here, cond, group, e, s, n, d, eqb-true (field w 0 8) 2 h) (holds (simp (tops, e, n, d, constant_is)
-        (refl, apart (λ (x : Decoded). x.insn.name) _ _ refl))))
+        (refl, apart (λ (x : Decoded). (insn_in x).name) _ _ refl))))
         (λ h2. split (eqb (field w 0 8) 3)
         (λ h. simp (here, cond, group, e, s, n, d, eqb-true (field w 0 8) 3 h) (holds (simp (tops, e, n, d, constant_is)
-        (refl, apart (λ (x : Decoded). x.insn.name) _ _ refl))))
+        (refl, apart (λ (x : Decoded). (insn_in x).name) _ _ refl))))
         (λ h3. split (eqb (field w 0 8) 4)
         (λ h. simp (here, cond, group, e, s, n, d, eqb-true (field w 0 8) 4 h) (holds (simp (tops, e, n, d, constant_is)
-        (refl, apart (λ (x : Decoded). x.insn.name) _ _ refl))))
+        (refl, apart (λ (x : Decoded). (insn_in x).name) _ _ refl))))
         (λ h4. split (bits_are (field w 0 8) "1111xxxx")
         (λ g. simp (here, cond, group, e, s, n, d, h0, h1, h2, h3, h4, g) (holds (simp (tops, e, n, d, constant_is) (refl, accepts))))
         (λ g. simp (here, cond, group, e, s, n, d, h0, h1, h2, h3, h4, g) (holds (simp (tops, e, n, d, constant_is) (refl, accepts))))))))))

@@ -6,7 +6,7 @@ use Prim.Native.String.{String}
 use borrow.Author.Tests.{eqb-true}
 use lib.Dec.{eqb}
 use Rattle.word.specs.Field.{field}
-use Rattle.insn.specs.declared.Decoded.{Decoded}
+use Rattle.insn.specs.Answer.{Decoded}
 use Rattle.a32_coproc.specs.Coproc.{floating_of}
 use Rattle.manual.specs.Stands.{Stands, StandsAt, in_range}
 use Rattle.manual.proofs.Fields.{Held, HeldAt, holds, group_26_2, low_4, low_7, by_field, split, ◌also◌}

@@ -5,7 +5,7 @@ use Prim.Native.Nat.{ℕ}
 use Prim.Native.String.{String}
 use Rattle.word.specs.Choice.{pick}
 use Rattle.insn.specs.Answer.{accepted, refused}
-use Rattle.insn.specs.declared.Decoded.{Decoded}
+use Rattle.insn.specs.Answer.{Decoded}
 use Rattle.insn.specs.declared.Insn.{Insn}
 use Rattle.manual.specs.A8.{said_of, page_of, reads}
 use Rattle.manual.specs.Departures.{Departure, standing_of, port_of, follows, departs}

@@ -1,11 +1,7 @@
 -- Where a table leads to another, by the values of its columns. Assumes nothing.
-use mathlib.Core.Path.{◌≡◌, refl, sym, subst, ◌∙◌}
-use mathlib.Core.Bool.{Bool, true, false}
-use Prim.Native.Nat.{ℕ, ◌/◌, ◌%◌, ◌<◌}
+use Rattle.std.proofs.Common.{◌≡◌, refl, sym, subst, ◌∙◌, Bool, true, false, ℕ, ◌/◌, ◌%◌, ◌<◌, arith, ne_eqb, eqb-true, T, eqb, eqb→eq}
+use Rattle.std.proofs.lemmas.Bool.{eqb-false}
 use Prim.Native.String.{String}
-use native.Mathlib.Omega.{arith}
-use borrow.Author.Tests.{ne_eqb, eqb-true, eqb-false}
-use lib.Dec.{T, eqb, eqb→eq}
 use Rattle.word.specs.Choice.{pick, by_test}
 use Rattle.word.specs.Every.{at_each}
 use Rattle.word.specs.Field.{field, small}

@@ -1,13 +1,6 @@
 -- The pages' "SEE", by the numbers of titles. Assumes nothing.
-use mathlib.Core.Path.{◌≡◌, refl, ap, ◌∙◌, subst}
-use mathlib.Core.Bool.{Bool, true, false}
-use Prim.Native.Nat.{ℕ, ◌<◌}
+use Rattle.std.proofs.Common.{◌≡◌, refl, ap, ◌∙◌, subst, Bool, true, false, ℕ, ◌<◌, zero-add, arith, ne_eqb, eq-eqb, eqb, get_or}
 use Prim.Native.String.{String}
-use native.Mathlib.Nat.{zero-add}
-use native.Mathlib.Omega.{arith}
-use borrow.Author.Tests.{ne_eqb, eq-eqb}
-use lib.Dec.{eqb}
-use lib.ListN.{get_or}
 use lib.Text.{eqt}
 use Rattle.word.specs.Choice.{pick, both}
 use Rattle.word.specs.Field.{field}

@@ -1,6 +1,6 @@
 -- No second result fits a contract, and a result tells the row. Each line is about the contract itself, as the check reads it from the
 -- source. Assumes nothing.
-use mathlib.Core.Path.{◌≡◌, ◌∙◌, sym}
+use Rattle.std.proofs.Common.{◌≡◌, ◌∙◌, sym}
 use Rattle.word.specs.Only.{Only}
 use Rattle.manual.specs.A8.{row_of}
 use Rattle.manual_tables.specs.Titles.{title_at}

@@ -58,6 +58,7 @@ fn data_processing(w: u32) -> u16
 }
 
 /// The same where op is 0.
+/// Nested, since its arms share their tests.
 fn registers(w: u32) -> u16
     requires { field w 25 1 ≡ 0 }
     ensures { Numbered (A5.data_processing w) result }
@@ -98,13 +99,11 @@ fn halfwords(w: u32) -> u16
     ensures { Numbered (A5.data_processing w) result }
 {
     let op1 = column(w, 24, 20);
-    if op1 < 16 {
-        if op1 / 2 % 2 == 1 {
-            return unprivileged(w);
-        }
-        return extra(w);
+    if op1 < 16 && op1 / 2 % 2 == 1 {
+        unprivileged(w)
+    } else {
+        extra(w)
     }
-    extra(w)
 }
 
 /// The same where op2 is 11x1.
@@ -113,16 +112,11 @@ fn doubles(w: u32) -> u16
     ensures { Numbered (A5.data_processing w) result }
 {
     let op1 = column(w, 24, 20);
-    if op1 < 16 {
-        if op1 / 2 % 2 == 1 {
-            if op1 % 2 == 1 {
-                return unprivileged(w);
-            }
-            return extra(w);
-        }
-        return extra(w);
+    if op1 < 16 && op1 / 2 % 2 == 1 && op1 % 2 == 1 {
+        unprivileged(w)
+    } else {
+        extra(w)
     }
-    extra(w)
 }
 
 /// Whether op1 is 10xx0.
@@ -130,7 +124,7 @@ fn is_control(w: u32) -> bool
     ensures { result ≡ like (field w 20 5) "10xx0" }
 {
     let op1 = column(w, 24, 20);
-    if op1 % 2 == 0 { op1 / 8 == 2 } else { false }
+    op1 % 2 == 0 && op1 / 8 == 2
 }
 
 /// Whether op1 is 10x10.
@@ -138,7 +132,7 @@ fn is_hint(w: u32) -> bool
     ensures { result ≡ like (field w 20 5) "10x10" }
 {
     let op1 = column(w, 24, 20);
-    if op1 == 18 { true } else { op1 == 22 }
+    op1 == 18 || op1 == 22
 }
 
 /// A5.2.11, table A5-13: op 22, op1 19:16, op2 7:0.
@@ -147,13 +141,11 @@ fn msr_and_hints(w: u32) -> u16
 {
     let op = column(w, 22, 22);
     let op1 = column(w, 19, 16);
-    if op == 0 {
-        if op1 == 0 {
-            return hint(w);
-        }
-        return MSR_IMMEDIATE;
+    if op == 0 && op1 == 0 {
+        hint(w)
+    } else {
+        MSR_IMMEDIATE
     }
-    MSR_IMMEDIATE
 }
 
 /// A5.4, table A5-16: op1 24:20, op2 7:5, Rd 15:12, Rn 3:0.
@@ -161,19 +153,13 @@ fn media(w: u32) -> u16
     ensures { Numbered (A5.media w) result }
 {
     let op1 = column(w, 24, 20);
-    if op1 < 4 {
-        return parallel_signed(w);
+    match op1 {
+        0..4 => parallel_signed(w),
+        4..8 => parallel_unsigned(w),
+        8..16 => packing(w),
+        16..24 => signed_multiply(w),
+        _ => bit_fields(w),
     }
-    if op1 < 8 {
-        return parallel_unsigned(w);
-    }
-    if op1 < 16 {
-        return packing(w);
-    }
-    if op1 < 24 {
-        return signed_multiply(w);
-    }
-    bit_fields(w)
 }
 
 /// A5.7, table A5-23: op1 27:20, op 4.

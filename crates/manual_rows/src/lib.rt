@@ -17,11 +17,9 @@ pub fn brassdozen_manual_row(w: u32) -> u16
     ensures { Numbered (row_of w) result }
 {
     let n = table_row(w);
-    if is_returning(n) {
-        if is_return(w) {
-            return SUBS_PC_LR;
-        }
-        return other_page(w, n);
+    if is_returning(n) && is_return(w) {
+        SUBS_PC_LR
+    } else {
+        other_page(w, n)
     }
-    other_page(w, n)
 }

@@ -52,7 +52,7 @@ pub fn is_return(w: u32) -> bool
 {
     let rd = column(w, 15, 12);
     let s = column(w, 20, 20);
-    if rd == 0b1111 { s == 1 } else { false }
+    rd == 0b1111 && s == 1
 }
 
 /// The page of a word whose row is the title numbered `n`, but for that "SEE".
@@ -60,34 +60,14 @@ pub fn other_page(w: u32, n: u16) -> u16
     requires { n < 271 }
     ensures { Numbered (other_page_of (title_at n) w) result }
 {
-    if n == ADR {
-        return adr(w);
+    match n {
+        ADR => adr(w),
+        STR_IMMEDIATE if is_one_word(w, 1, 0, 1) => PUSH_ONE,
+        LDR_IMMEDIATE if is_one_word(w, 0, 1, 0) => POP_ONE,
+        POP if is_few(w) => LDM,
+        PUSH if is_few(w) => STMDB,
+        _ => n,
     }
-    if n == STR_IMMEDIATE {
-        if is_one_word(w, 1, 0, 1) {
-            return PUSH_ONE;
-        }
-        return n;
-    }
-    if n == LDR_IMMEDIATE {
-        if is_one_word(w, 0, 1, 0) {
-            return POP_ONE;
-        }
-        return n;
-    }
-    if n == POP {
-        if is_few(w) {
-            return LDM;
-        }
-        return n;
-    }
-    if n == PUSH {
-        if is_few(w) {
-            return STMDB;
-        }
-        return n;
-    }
-    n
 }
 
 /// ADR's encodings have bit 20 clear.
@@ -96,16 +76,15 @@ fn adr(w: u32) -> u16
 {
     let s = column(w, 20, 20);
     let add = column(w, 23, 23);
-    if s == 1 {
-        if add == 1 {
-            return ADD_IMMEDIATE;
-        }
-        return SUB_IMMEDIATE;
+    match (s, add) {
+        (1, 1) => ADD_IMMEDIATE,
+        (1, _) => SUB_IMMEDIATE,
+        _ => ADR,
     }
-    ADR
 }
 
 /// A word from or to the stack: "Rn == '1101'", P, U and W as given, "imm12 == '000000000100'".
+#[tactic(auto, unfolding(manual::specs::A8::one_word))]
 fn is_one_word(w: u32, p: u32, u: u32, wb: u32) -> bool
     ensures { result ≡ one_word w p u wb }
 {
@@ -114,22 +93,14 @@ fn is_one_word(w: u32, p: u32, u: u32, wb: u32) -> bool
     let add = column(w, 23, 23);
     let wback = column(w, 21, 21);
     let imm12 = column(w, 11, 0);
-    if rn == 0b1101 {
-        if index == p {
-            if add == u {
-                return if wback == wb { imm12 == 4 } else { false };
-            }
-            return false;
-        }
-        return false;
-    }
-    false
+    rn == 0b1101 && index == p && add == u && wback == wb && imm12 == 4
 }
 
 /// "BitCount(register_list) < 2".
+#[tactic(auto, unfolding(manual::specs::A8::fewer_than_two), using(a32_transfer::proofs::Ones::ones_in_lem, word::specs::Field::small))]
 fn is_few(w: u32) -> bool
     ensures { result ≡ fewer_than_two w }
 {
     let list = column(w, 15, 0);
-    !(2 <= u32::count_ones(list))
+    !(2 <= list.count_ones())
 }

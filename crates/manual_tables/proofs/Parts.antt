@@ -1,9 +1,6 @@
 -- Fields as parts of others, so that a table and its array speak of the same; and laws of choices. Assumes nothing.
-use mathlib.Core.Path.{◌≡◌, refl, sym, ◌∙◌, subst}
-use mathlib.Core.Bool.{Bool, true, false}
-use Prim.Native.Nat.{ℕ, ◌+◌, ◌*◌, ◌/◌, ◌%◌, ◌^◌}
+use Rattle.std.proofs.Common.{◌≡◌, refl, sym, ◌∙◌, subst, Bool, true, false, ℕ, ◌+◌, ◌*◌, ◌/◌, ◌%◌, ◌^◌, eqb, leb}
 use Prim.Native.String.{String}
-use lib.Dec.{eqb, leb}
 use Rattle.word.specs.Choice.{pick, both}
 use Rattle.word.specs.Field.{field, small, splits, within}
 use Rattle.manual.specs.Pattern.{like}

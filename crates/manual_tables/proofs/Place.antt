@@ -1,17 +1,9 @@
 -- An array that holds a table: its entry at the place that a word's columns make is the number of the table's row. One law for every
 -- table, from one test over all places. Assumes nothing.
-use mathlib.Core.Path.{◌≡◌, refl, sym, ap, ◌∙◌, subst}
-use mathlib.Core.Bool.{Bool, true, false}
-use mathlib.Core.List.{List, [], ◌∷◌}
-use Prim.Native.Nat.{ℕ, zero, suc, ◌+◌, ◌-◌, ◌*◌, ◌/◌, ◌%◌, ◌^◌, ◌<◌}
+use Rattle.std.proofs.Common.{◌≡◌, refl, sym, ap, ◌∙◌, subst, Bool, true, false, List, [], ◌∷◌, ℕ, zero, suc, ◌+◌, ◌-◌, ◌*◌, ◌/◌, ◌%◌, ◌^◌, ◌<◌, arith, T, eqb, ltb, ltb→lt, eqb→eq, get_or, pow-add, add-zero, zero-add, add-suc, suc-add, le_of_suc-le-suc, not-suc-le-zero}
+use Rattle.std.proofs.Math.Arith.{digits_lt}
 use Prim.Native.String.{String}
-use native.Mathlib.Omega.{arith}
-use lib.Arith.{digits_lt}
-use lib.Dec.{T, eqb, ltb, ltb→lt, eqb→eq}
-use lib.ListN.{get_or}
-use lib.Pow as P
-use lib.Pow.{pow-add}
-use native.Mathlib.Nat.{add-zero, zero-add, add-suc, suc-add, le_of_suc-le-suc, not-suc-le-zero}
+use Rattle.std.proofs.Math.Pow as P
 use Rattle.word.specs.Choice.{pick, both}
 use Rattle.word.specs.Every.{every, at_each, left, right}
 use Rattle.word.specs.Field.{field, small}

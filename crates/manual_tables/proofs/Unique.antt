@@ -1,10 +1,9 @@
 -- No second result fits a contract. Each line is about the contract itself, as the check reads it from the source.
 -- Assumes nothing.
-use mathlib.Core.Path.{◌≡◌, ◌∙◌, sym}
+use Rattle.std.proofs.Common.{◌≡◌, ◌∙◌, sym, ℕ}
 use Rattle.word.specs.Only.{Only}
 use Rattle.manual_tables.specs.Titles.{Numbered}
 use Prim.Native.String.{String}
-use Prim.Native.Nat.{ℕ}
 use Rattle.manual_tables.proofs.columns.column.Reads as column
 use Rattle.manual_tables.proofs.columns.is.Reads as is
 use Rattle.manual_tables.proofs.columns.title.Reads as title

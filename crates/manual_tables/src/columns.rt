@@ -19,8 +19,7 @@ pub fn is(w: u32, hi: u32, lo: u32, v: u32) -> u32
     requires { (lo ≤ hi) × (hi < 32) × (hi - lo < 31) }
     ensures { (result ≡ is_of (field w lo (hi - lo + 1)) v) × (result < 2) }
 {
-    let x = bits(w, hi, lo);
-    if x == v { 1 } else { 0 }
+    u32::from(bits(w, hi, lo) == v)
 }
 
 /// The number that an entry stands for, in a table whose titles begin with number `first`.
@@ -28,8 +27,9 @@ pub fn title(first: u16, entry: u8) -> u16
     requires { first < 271 }
     ensures { result ≡ entry_of first entry }
 {
-    if entry < b'a' {
-        return if entry == b'?' { 1 } else { 0 };
+    match entry {
+        b'?' => 1,
+        b'a'.. => first + u16::from(entry - b'a'),
+        _ => 0,
     }
-    first + (entry - b'a') as u16
 }

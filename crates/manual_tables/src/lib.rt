@@ -5,11 +5,11 @@
 
 pub mod columns;
 
-ghost use Rattle.std.specs.Prelude.{◌≡◌, false, eqb};
+ghost use Rattle.std.specs.Prelude.{◌≡◌, ◌+◌, ◌*◌, ◌<◌, false, eqb, get_or};
 ghost use Rattle.word.specs.Field.{field};
 ghost use Rattle.manual.specs.A5 as A5;
 ghost use Rattle.manual.specs.Pattern.{like};
-ghost use Rattle.manual_tables.specs.Titles.{Numbered};
+ghost use Rattle.manual_tables.specs.Titles.{Numbered, entry_of};
 
 use crate::columns::{column, is, title};
 
@@ -127,26 +127,29 @@ pub fn load_store(w: u32) -> u16
     title(127, LOAD_STORE[place as usize])
 }
 
-/// A5.4.1, table A5-17: op1 21:20, op2 7:5.
-const PARALLEL_SIGNED: [u8; 32] = *b"\
+/// A5.4.1 and A5.4.2, tables A5-17 and A5-18, whose rows stand alike: op1 21:20, op2 7:5.
+const PARALLEL: [u8; 32] = *b"\
     ........abcde..fghijk..lmnopq..r";
+
+/// The row of either, by the number that its titles begin with.
+fn parallel(w: u32, first: u16) -> u16
+    requires { first < 271 }
+    ensures { result ≡ entry_of first (get_or PARALLEL (field w 20 2 * 8 + field w 5 3) 0) }
+{
+    let place = column(w, 21, 20) * 8 + column(w, 7, 5);
+    title(first, PARALLEL[place as usize])
+}
 
 pub fn parallel_signed(w: u32) -> u16
     ensures { Numbered (A5.parallel_signed w) result }
 {
-    let place = column(w, 21, 20) * 8 + column(w, 7, 5);
-    title(141, PARALLEL_SIGNED[place as usize])
+    parallel(w, 141)
 }
-
-/// A5.4.2, table A5-18: op1 21:20, op2 7:5.
-const PARALLEL_UNSIGNED: [u8; 32] = *b"\
-    ........abcde..fghijk..lmnopq..r";
 
 pub fn parallel_unsigned(w: u32) -> u16
     ensures { Numbered (A5.parallel_unsigned w) result }
 {
-    let place = column(w, 21, 20) * 8 + column(w, 7, 5);
-    title(159, PARALLEL_UNSIGNED[place as usize])
+    parallel(w, 159)
 }
 
 /// A5.4.3, table A5-19: op1 22:20, op2 7:5, and whether A is 15.

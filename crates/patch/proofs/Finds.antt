@@ -10,25 +10,26 @@ use lib.ListN.{length}
 use Rattle.word.specs.Choice.{tested, by_test}
 use Rattle.word.specs.Every.{every}
 use Rattle.patch.specs.Image.{Laid, has, in_patch, in_section, words_refusal}
-use Rattle.patch.specs.Run.{held_of, found_of}
-use Rattle.patch.specs.declared.Found.{Found}
-use Rattle.patch.specs.declared.Found.TheVariants.{Patch, Section, Refused}
+use Rattle.patch.specs.Run.{Answer, held_of, found_of}
+use Rattle.std.specs.Prelude.{Ok, Err}
+use Rattle.word.specs.Refusal.{refusing}
+use Rattle.patch.specs.declared.Found.TheVariants.{Patch, Section}
 use Rattle.patch.proofs.Each.{each}
 use Rattle.patch.proofs.Holders.{bounds}
 use Rattle.patch.proofs.Words.{fit}
 
 module _ (s p : Laid) (addr len : ℕ) where
-  pub section_refused : (words_refusal s ≡ 0 → ⊥) → found_of s p addr len ≡ Refused (words_refusal s)
+  pub section_refused : (words_refusal s ≡ 0 → ⊥) → found_of s p addr len ≡ refusing (words_refusal s)
   section_refused bad = unfold found_of in simp (ne_eqb (words_refusal s) 0 bad)
 
   module _ (ok : words_refusal s ≡ 0) where
-    pub patch_refused : (words_refusal p ≡ 0 → ⊥) → found_of s p addr len ≡ Refused (words_refusal p)
+    pub patch_refused : (words_refusal p ≡ 0 → ⊥) → found_of s p addr len ≡ refusing (words_refusal p)
     patch_refused bad = unfold found_of in simp (eq-eqb (words_refusal s) 0 ok, ne_eqb (words_refusal p) 0 bad)
 
     pub none_refused : words_refusal p ≡ 0 → found_of s p addr len ≡ held_of s p addr len
     none_refused fine = unfold found_of in simp (eq-eqb (words_refusal s) 0 ok, eq-eqb (words_refusal p) 0 fine)
 
-  pub empty_run : len ≡ 0 → held_of s p addr len ≡ Refused 14
+  pub empty_run : len ≡ 0 → held_of s p addr len ≡ refusing 14
   empty_run none = unfold held_of in simp (eq-eqb len 0 none)
 
   -- the run is empty, or neither holds all of it
@@ -36,11 +37,11 @@ module _ (s p : Laid) (addr len : ℕ) where
   NotHeld = (len ≡ 0) ⊎ ((every (in_patch s p) addr len ≡ false) × (every (in_section s p) addr len ≡ false))
 
   -- by the ways that a run is found or refused
-  pub by_found : (P : Found → Type 0) → ((words_refusal s ≡ 0 → ⊥) → P (Refused (words_refusal s)))
-      → (words_refusal s ≡ 0 → (words_refusal p ≡ 0 → ⊥) → P (Refused (words_refusal p)))
-      → (words_refusal s ≡ 0 → words_refusal p ≡ 0 → NotHeld → P (Refused 14))
-      → (words_refusal s ≡ 0 → words_refusal p ≡ 0 → 0 < len → every (in_patch s p) addr len ≡ true → P (Patch (addr - p.base)))
-      → (words_refusal s ≡ 0 → words_refusal p ≡ 0 → 0 < len → every (in_section s p) addr len ≡ true → P (Section (addr - s.base)))
+  pub by_found : (P : Answer → Type 0) → ((words_refusal s ≡ 0 → ⊥) → P (refusing (words_refusal s)))
+      → (words_refusal s ≡ 0 → (words_refusal p ≡ 0 → ⊥) → P (refusing (words_refusal p)))
+      → (words_refusal s ≡ 0 → words_refusal p ≡ 0 → NotHeld → P (refusing 14))
+      → (words_refusal s ≡ 0 → words_refusal p ≡ 0 → 0 < len → every (in_patch s p) addr len ≡ true → P (Ok (Patch (addr - p.base))))
+      → (words_refusal s ≡ 0 → words_refusal p ≡ 0 → 0 < len → every (in_section s p) addr len ≡ true → P (Ok (Section (addr - s.base))))
       → P (found_of s p addr len)
   by_found P bad bad' not-held in-patch in-section = unfold found_of held_of in
       tested P (not (eqb (words_refusal s) 0))
@@ -75,10 +76,10 @@ shown s p a e =
 
 module _ (s p : Laid) (addr len : ℕ) where
   -- what is found lies in the slice that holds it
-  abbrev pub Lies : Found → Type 0
-  Lies (Patch place) = place + len ≤ length p.words
-  Lies (Section place) = place + len ≤ length s.words
-  Lies (Refused n) = Unit {0}
+  abbrev pub Lies : Answer → Type 0
+  Lies (Ok (Patch place)) = place + len ≤ length p.words
+  Lies (Ok (Section place)) = place + len ≤ length s.words
+  Lies (Err r) = Unit {0}
 
   pub lies : Lies (found_of s p addr len)
   lies =
@@ -87,10 +88,10 @@ module _ (s p : Laid) (addr len : ℕ) where
       (λ ok fine some held. (lies_in s addr len some (λ k h. (shown s p (addr + k) (each (in_section s p) len addr held k h)).1)).1)
 
   -- and its place there has 14 bits
-  abbrev pub Near : Found → Type 0
-  Near (Patch place) = place < 2 ^ 14
-  Near (Section place) = place < 2 ^ 14
-  Near (Refused n) = Unit {0}
+  abbrev pub Near : Answer → Type 0
+  Near (Ok (Patch place)) = place < 2 ^ 14
+  Near (Ok (Section place)) = place < 2 ^ 14
+  Near (Err r) = Unit {0}
 
   pub near : Near (found_of s p addr len)
   near =

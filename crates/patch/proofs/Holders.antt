@@ -11,7 +11,9 @@ use Rattle.word.specs.Every.{every}
 use Rattle.patch.specs.Bounds.{within, reaches}
 use Rattle.patch.specs.Image.{Laid, has, in_patch, in_section}
 use Rattle.patch.specs.Run.{held_of}
-use Rattle.patch.specs.declared.Found.TheVariants.{Patch, Section, Refused}
+use Rattle.std.specs.Prelude.{Ok}
+use Rattle.word.specs.Refusal.{refusing}
+use Rattle.patch.specs.declared.Found.TheVariants.{Patch, Section}
 use Rattle.patch.proofs.Each.{all, not_all}
 
 -- the ends of words, and a run's place among them
@@ -63,7 +65,7 @@ module _ (l : Laid) where
         )) ∙ e))
 
 module _ (s p : Laid) (addr len : ℕ) (some : 0 < len) where
-  pub held_in_patch : within p.base (length p.words) addr len ≡ true → held_of s p addr len ≡ Patch (addr - p.base)
+  pub held_in_patch : within p.base (length p.words) addr len ≡ true → held_of s p addr len ≡ Ok (Patch (addr - p.base))
   held_in_patch e = unfold held_of in
       let ends = ends_within p addr len e in
       simp (
@@ -75,14 +77,14 @@ module _ (s p : Laid) (addr len : ℕ) (some : 0 < len) where
     not_in_patch : every (in_patch s p) addr len ≡ false
     not_in_patch = let missing = one_missing p addr len some left in not_all (in_patch s p) len addr missing.0 missing.1 missing.2
 
-    not_in_section : {k : ℕ} → k < len → in_section s p (addr + k) ≡ false → held_of s p addr len ≡ Refused 14
+    not_in_section : {k : ℕ} → k < len → in_section s p (addr + k) ≡ false → held_of s p addr len ≡ refusing 14
     not_in_section {k} h e = unfold held_of in
         simp (ne_eqb len 0 (λ z. omega arith), not_in_patch, not_all (in_section s p) len addr k h e)
 
-    pub held_across : reaches p.base (length p.words) addr len ≡ true → held_of s p addr len ≡ Refused 14
+    pub held_across : reaches p.base (length p.words) addr len ≡ true → held_of s p addr len ≡ refusing 14
     held_across e = let there = one_there p addr len some e in not_in_section there.0 (simp there.1)
 
-    pub held_nowhere : within s.base (length s.words) addr len ≡ false → held_of s p addr len ≡ Refused 14
+    pub held_nowhere : within s.base (length s.words) addr len ≡ false → held_of s p addr len ≡ refusing 14
     held_nowhere e =
         let missing = one_missing s addr len some e in
         not_in_section missing.1 (rw missing.2 (nowhere (has p (addr + missing.0))))
@@ -92,7 +94,7 @@ module _ (s p : Laid) (addr len : ℕ) (some : 0 < len) where
         nowhere false = refl
 
     pub held_in_section : reaches p.base (length p.words) addr len ≡ false → within s.base (length s.words) addr len ≡ true
-        → held_of s p addr len ≡ Section (addr - s.base)
+        → held_of s p addr len ≡ Ok (Section (addr - s.base))
     held_in_section apart e = unfold held_of in
         let ends = ends_within s addr len e in
         simp (

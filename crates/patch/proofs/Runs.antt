@@ -10,10 +10,11 @@ use lib.ListN.{length, get_or, take, drop, length-drop}
 use lib.Seq.{length-take-le, get_or-take, get_or-drop, ext_get_or}
 use Rattle.patch.specs.Image.{Laid, has, byte_of, in_patch, in_section, words_refusal}
 use Rattle.patch.specs.Part.{Throughout, OwnBytes, IsRun, NoRun}
-use Rattle.patch.specs.Run.{part_of, run_of, number_of, run_refusal}
+use Rattle.patch.specs.Run.{part_of, run_of, run_refusal}
+use Rattle.word.specs.Refusal.{numbered, not_refused, refused_with}
 use Rattle.patch.proofs.Each.{each, all}
 use Rattle.patch.proofs.Finds.{section_refused, patch_refused, NotHeld, by_found, lies_in, shown}
-use Rattle.patch.proofs.Words.{small}
+use Rattle.patch.proofs.Words.{small, told}
 
 -- words that have each byte of a run
 module _ (l : Laid) (addr len : ℕ) (more : 0 < len) (held : Throughout (has l) addr len) where
@@ -38,9 +39,9 @@ module _ (l : Laid) (addr len : ℕ) (more : 0 < len) (held : Throughout (has l)
 module _ (s p : Laid) (addr len : ℕ) where
   pub is_run : run_refusal s p addr len ≡ 0 → IsRun s p addr len (run_of s p addr len)
   is_run =
-      by_found s p addr len (λ found. number_of found ≡ 0 → IsRun s p addr len (part_of s p len found))
-      (λ bad none. absurd (bad none))
-      (λ ok bad none. absurd (bad none))
+      by_found s p addr len (λ found. refused_with found ≡ 0 → IsRun s p addr len (part_of s p len found))
+      (λ bad none. not_refused (numbered (words_refusal s)) none)
+      (λ ok bad none. not_refused (numbered (words_refusal p)) none)
       (λ ok fine not-held none. absurd (let z : ⊥ = omega arith in z))
       (λ ok fine more held none.
       let own = each (in_patch s p) len addr held in record {
@@ -61,7 +62,7 @@ module _ (s p : Laid) (addr len : ℕ) where
   -- "A refusal gives an empty part"
   pub refused_empty : (run_refusal s p addr len ≡ 0 → ⊥) → run_of s p addr len ≡ []
   refused_empty =
-      by_found s p addr len (λ found. (number_of found ≡ 0 → ⊥) → part_of s p len found ≡ [])
+      by_found s p addr len (λ found. (refused_with found ≡ 0 → ⊥) → part_of s p len found ≡ [])
       (λ bad some. refl) (λ ok bad some. refl) (λ ok fine not-held some. refl)
       (λ ok fine more held some. absurd (some refl)) (λ ok fine more held some. absurd (some refl))
 
@@ -73,10 +74,10 @@ module _ (s p : Laid) (addr len : ℕ) where
 
   -- the checks in their order
   pub section_first : (words_refusal s ≡ 0 → ⊥) → run_refusal s p addr len ≡ words_refusal s
-  section_first bad = ap number_of (section_refused s p addr len bad)
+  section_first bad = ap refused_with (section_refused s p addr len bad) ∙ told s bad
 
   pub then_patch : words_refusal s ≡ 0 → (words_refusal p ≡ 0 → ⊥) → run_refusal s p addr len ≡ words_refusal p
-  then_patch ok bad = ap number_of (patch_refused s p addr len ok bad)
+  then_patch ok bad = ap refused_with (patch_refused s p addr len ok bad) ∙ told p bad
 
   not_held_tells : NotHeld s p addr len → NoRun s p addr len
   not_held_tells held =
@@ -92,16 +93,16 @@ module _ (s p : Laid) (addr len : ℕ) where
     where
       to : run_refusal s p addr len ≡ 14 → (words_refusal s ≡ 0) × (words_refusal p ≡ 0) × NoRun s p addr len
       to =
-          by_found s p addr len (λ found. number_of found ≡ 14 → (words_refusal s ≡ 0) × (words_refusal p ≡ 0) × NoRun s p addr len)
-          (λ bad is. absurd (let z : ⊥ = omega (arith, small s) in z))
-          (λ ok bad is. absurd (let z : ⊥ = omega (arith, small p) in z))
+          by_found s p addr len (λ found. refused_with found ≡ 14 → (words_refusal s ≡ 0) × (words_refusal p ≡ 0) × NoRun s p addr len)
+          (λ bad is. absurd (let z : ⊥ = omega (arith, small s, told s bad) in z))
+          (λ ok bad is. absurd (let z : ⊥ = omega (arith, small p, told p bad) in z))
           (λ ok fine not-held is. (ok, fine, not_held_tells not-held))
           (λ ok fine more held is. absurd (let z : ⊥ = omega arith in z))
           (λ ok fine more held is. absurd (let z : ⊥ = omega arith in z))
 
       back : (words_refusal s ≡ 0) × (words_refusal p ≡ 0) × NoRun s p addr len → run_refusal s p addr len ≡ 14
       back given =
-          by_found s p addr len (λ found. number_of found ≡ 14)
+          by_found s p addr len (λ found. refused_with found ≡ 14)
           (λ bad. absurd (bad given.0))
           (λ ok bad. absurd (bad given.1))
           (λ ok fine not-held. refl)

@@ -4,10 +4,12 @@ use mathlib.Core.Logic.{◌↔◌}
 use Prim.Native.Nat.{ℕ, ◌+◌, ◌-◌, ◌*◌, ◌/◌, ◌%◌, ◌^◌, ◌<◌, ◌≤◌}
 use native.Mathlib.Omega.{arith}
 use lib.ListN.{length}
-use Rattle.section.specs.Section.{base_of, count_of}
-use Rattle.section.proofs.Accepted.{accepted, small_refusal}
+use Rattle.section.specs.Section.{base_of, count_of, refusal_of}
+use Rattle.section.proofs.Accepted.{accepted, refusal_known, small_refusal}
 use Rattle.section.proofs.Checks as Checks
 use Rattle.patch.specs.Image.{Laid, section_with, words_refusal}
+use mathlib.Core.Logic.{⊎_elim}
+use Rattle.word.specs.Refusal.{number, numbered}
 use Rattle.patch.specs.Part.{Fit}
 
 module _ (l : Laid) where
@@ -66,6 +68,14 @@ module _ (l : Laid) where
 
   pub fit_exactly : (words_refusal l ≡ 0) ↔ Fit l
   fit_exactly = (fit, λ is. none is.fours (omega (arith, is.few)) is.aligned is.below)
+
+  -- a refusal's number is one of the table
+  pub told : (words_refusal l ≡ 0 → ⊥) → number (numbered (words_refusal l)) ≡ words_refusal l
+  told bad = unfold words_refusal in
+      ⊎_elim
+      (λ (none : refusal_of (section_with l) ≡ 0). absurd (bad none))
+      (λ (is : number (numbered (refusal_of (section_with l))) ≡ refusal_of (section_with l)). is)
+      (refusal_known (section_with l))
 
   pub small : words_refusal l < 12
   small = unfold words_refusal in small_refusal (section_with l)

@@ -1,13 +1,14 @@
 -- What an accepted section's opening tells of its words. Assumes nothing.
-use mathlib.Core.Path.{◌≡◌, ap, sym, ◌∙◌}
+use mathlib.Core.Path.{◌≡◌, ap, ◌∙◌}
 use mathlib.Core.List.{List}
 use Prim.Native.Nat.{ℕ, ◌+◌, ◌-◌, ◌*◌, ◌≤◌}
 use native.Mathlib.Omega.{arith}
 use lib.ListN.{length, take, drop, length-append, length-drop}
 use lib.Seq.{length-take-le, take_all}
-use Rattle.section.specs.Section.{base_of, start_of, count_of, refusal_of, opened_of}
+use Rattle.section.specs.Section.{version_of, base_of, range_count, start_of, count_of, refusal_of, opened_of}
+use Rattle.std.specs.Prelude.{Ok}
 use Rattle.section.specs.declared.Opened.{Opened}
-use Rattle.section.proofs.Accepted.{accepted, opens, same_refusal}
+use Rattle.section.proofs.Accepted.{accepted, opening, none_refused, is_opening}
 use Rattle.patch.specs.Image.{◌from◌, words_refusal}
 use Rattle.patch.proofs.Words.{fit_exactly}
 use Rattle.patched.specs.Patched.{laid_of, image_of, patched_of}
@@ -41,15 +42,18 @@ module _ (s : List ℕ) (ok : refusal_of s ≡ 0) where
   pub patched_size : (p : List ℕ) → length (patched_of s p) ≡ length s
   patched_size p = omega (arith, parts_size p, image_size (laid_of s) (laid_of p), length-drop (start_of s) s, starts_within)
 
-module _ (s : List ℕ) {o : Opened} (is : o ≡ opened_of s) (none : o.refusal ≡ 0) where
+module _ (s : List ℕ) {o : Opened} (is : opened_of s ≡ Ok o) where
   pub is_accepted : refusal_of s ≡ 0
-  is_accepted = sym (same_refusal s) ∙ ap (λ (x : Opened). x.refusal) (sym is) ∙ none
+  is_accepted = none_refused s is
+
+  holds : o ≡ record { version = version_of s; base = base_of s; count = count_of s; ranges = range_count s; start = start_of s }
+  holds = is_opening s is ∙ opening s is_accepted
 
   pub start_is : o.start ≡ start_of s
-  start_is = ap (λ (x : Opened). x.start) (is ∙ opens s is_accepted)
+  start_is = ap (λ (x : Opened). x.start) holds
 
   base_is : o.base ≡ base_of s
-  base_is = ap (λ (x : Opened). x.base) (is ∙ opens s is_accepted)
+  base_is = ap (λ (x : Opened). x.base) holds
 
   pub laid_is : take (length s - o.start) (drop o.start s) from o.base ≡ laid_of s
   laid_is = rw (start_is, base_is) (ap (λ (words : List ℕ). words from base_of s)

@@ -19,7 +19,8 @@ use Rattle.section.specs.Section.{firsts}
 use Rattle.section.proofs.Firsts.{so_many, each}
 use Rattle.patch.specs.Image.{Laid, has, in_patch, in_section, byte_at, words_refusal}
 use Rattle.patch.specs.Part.{Fit}
-use Rattle.patch.specs.Run.{number_of, run_of, run_refusal}
+use Rattle.patch.specs.Run.{run_of, run_refusal}
+use Rattle.word.specs.Refusal.{refused_with}
 use Rattle.patch.proofs.Each.{all}
 use Rattle.patch.proofs.Finds.{by_found}
 use Rattle.patch.proofs.Holders.{has_it, has_not, bounds}
@@ -93,7 +94,7 @@ module _ (s p : Laid) (ok : words_refusal s ≡ 0) (fine : words_refusal p ≡ 0
 
     pub word_found : run_refusal s p (s.base + i) 4 ≡ 0
     word_found =
-        by_found s p (s.base + i) 4 (λ found. number_of found ≡ 0) (λ bad. absurd (bad ok)) (λ good bad. absurd (bad fine))
+        by_found s p (s.base + i) 4 (λ found. refused_with found ≡ 0) (λ bad. absurd (bad ok)) (λ good bad. absurd (bad fine))
         (λ good too not-held. absurd (⊎_elim (λ none. omega arith) neither not-held))
         (λ good too more held. refl) (λ good too more held. refl)
       where

@@ -9,7 +9,7 @@ use lib.ListN.{length, get_or, take, get_or-append}
 use lib.Seq.{take_at, get_or-take, get_or-drop, get_or-append-add}
 use Rattle.section.specs.Section.{base_of, start_of, ranges_of, count_of, refusal_of, places_of, here_of}
 use Rattle.section.specs.declared.Opened.{Opened}
-use Rattle.section.proofs.Accepted.{opens}
+use Rattle.section.proofs.Accepted.{opening}
 use Rattle.section.proofs.Firsts.{each}
 use Rattle.section.proofs.Front.{same_count, same_refusal, same_ranges, same_opened, carries, keeps}
 use Rattle.section.proofs.Places.{how_many_lem}
@@ -47,7 +47,7 @@ module _ (s p : List ℕ) (ok : refusal_of s ≡ 0) (fine : refusal_of p ≡ 0) 
   unreached : (place : ℕ) → has (laid_of p) (base_of s + 4 * place) ≡ false → here_of t place ≡ here_of s place
   unreached place free =
       keeps s t as_long front_bytes place (λ inside k h.
-      let count : length (places_of s) ≡ count_of s = how_many_lem s ∙ ap (λ (o : Opened). o.count) (opens s ok) in
+      let count : length (places_of s) ≡ count_of s = how_many_lem s ∙ ap (λ (o : Opened). o.count) (opening s ok) in
       let there : start_of s + (4 * place + k) ≡ start_of s + 4 * place + k = omega arith in
       sym (rw there at (word_bytes (4 * place + k) (omega arith)
       ∙ own_bytes (laid_of s) (laid_of p) (laid_fits s ok) (laid_fits p fine) (4 * place) (omega arith) (omega (arith, words_are s ok)) free k h

@@ -2,8 +2,8 @@
 use Rattle.std.specs.Prelude.{List, ◌++◌, ℕ, ◌+◌, eqb, length, take, drop}
 use Rattle.std.proofs.Math.Option.{Option, none, some}
 use Rattle.word.specs.Choice.{pick}
-use Rattle.text.specs.Fits.{answer_of, last_of}
-use Rattle.text.specs.declared.Written.{Written}
+use Rattle.word.specs.Refusal.{refusing}
+use Rattle.text.specs.Fits.{Written, answer_of, last_of}
 use Rattle.section.specs.Section.{base_of, start_of, firsts, refusal_of}
 use Rattle.patch.specs.Image.{Laid, ◌from◌, byte_at}
 
@@ -34,7 +34,7 @@ patched_refusal s p = pick (eqb (refusal_of s) 0) (refusal_of p) (refusal_of s)
 -- the patched section's length; last, 10 if it is longer than the lent buffer
 unfoldable pub patched_given : List ℕ → List ℕ → List ℕ → Written
 patched_given s p out =
-    pick (eqb (patched_refusal s p) 0) (answer_of (patched_of s p) out) (record { refusal = patched_refusal s p; len = 0 })
+    pick (eqb (patched_refusal s p) 0) (answer_of (patched_of s p) out) (refusing (patched_refusal s p))
 
 -- it stands at the buffer's start, and nothing after it changes; a refusal changes nothing
 unfoldable pub patched_left : List ℕ → List ℕ → List ℕ → List ℕ

@@ -3,14 +3,13 @@
 
 ghost use Rattle.std.specs.Prelude.{◌≡◌};
 ghost use Rattle.text.specs.Put.{Room, Put};
-ghost use Rattle.section.specs.Section.{opened_of};
 ghost use Rattle.patch.specs.Image.{◌from◌, words_refusal};
 ghost use Rattle.patched.specs.Patched.{image_of, patched_of, patched_given, patched_left};
 
 use patch::run;
-use section::{Opened, open};
+use section::Section;
 use text::{Written, put};
-use word::refusal::NO_ROOM;
+use word::refusal::Refusal;
 
 /// Writes `section` with the words of `patch`, a section of its own, laid over its words to the start of `out`, once it is known to fit. Both slices
 /// have one lifetime, as `run` has it.
@@ -18,55 +17,29 @@ pub fn patched<'a>(section: &'a [u8], patch: &'a [u8], out: &mut [u8]) -> Writte
     ensures value { result ≡ patched_given section.now patch.now out.old }
     ensures out_after { out.new ≡ patched_left section.now patch.now out.old }
 {
-    let opened = open(section);
-    if opened.refusal != 0 {
-        return Written {
-            refusal: opened.refusal,
-            len: 0,
-        };
+    let section = Section::open(section)?;
+    let patch = Section::open(patch)?;
+    if out.len() < section.bytes().len() {
+        return Err(Refusal::NoRoom);
     }
-    let over = open(patch);
-    if over.refusal != 0 {
-        return Written {
-            refusal: over.refusal,
-            len: 0,
-        };
-    }
-    if section.len() <= out.len() {
-        Written {
-            refusal: 0,
-            len: put_patched(out, section, opened, patch, over),
-        }
-    } else {
-        Written {
-            refusal: NO_ROOM,
-            len: 0,
-        }
-    }
+    Ok(put_patched(out, &section, &patch))
 }
 
 /// The same where both are accepted.
-fn put_patched<'a>(
-    out: &mut [u8],
-    section: &'a [u8],
-    opened: Opened,
-    patch: &'a [u8],
-    over: Opened,
-) -> usize
-    requires opened_value { (opened ≡ opened_of section.now) × (opened.refusal ≡ 0) }
-    requires over_value { (over ≡ opened_of patch.now) × (over.refusal ≡ 0) }
-    requires room { Room out.old 0 (patched_of section.now patch.now) }
+fn put_patched<'a>(out: &mut [u8], section: &Section<'a>, patch: &Section<'a>) -> usize
+    requires { Room out.old 0 (patched_of section.now patch.now) }
     ensures { Put out.old 0 (patched_of section.now patch.now) result out.new }
 {
-    let start = opened.start;
-    let at = put(out, 0, &section[..start]);
-    let first = over.start;
+    let opened = section.opened();
+    let bytes = section.bytes();
+    let at = put(out, 0, &bytes[..opened.start]);
+    let over = patch.opened();
     put_words(
         out,
         at,
-        &section[start..],
+        &bytes[opened.start..],
         opened.base,
-        &patch[first..],
+        &patch.bytes()[over.start..],
         over.base,
     )
 }
@@ -84,11 +57,11 @@ fn put_words<'a>(
     requires room { Room out.old at (image_of (words.now from base) (patch.now from over)) }
     ensures { Put out.old at (image_of (words.now from base) (patch.now from over)) result out.new }
 {
-    let mut i = 0;
-    while i < words.len() {
+    // By place: a run is asked for by its address.
+    for place in 0..words.len() / 4 {
+        let i = 4 * place;
         let word = run(words, base, patch, over, base as u64 + i as u64, 4);
         put(out, at + i, word);
-        i += 4;
     }
-    at + i
+    at + words.len()
 }

@@ -2,6 +2,9 @@
 -- the manual, that different work has different answers, and what stands beside these. Each statement is proved in a line or two from those that
 -- docs/THEOREMS.md lists. Assumes nothing.
 use mathlib.Core.Path.{◌≡◌, refl, ap, sym, subst, ◌∙◌}
+use Rattle.std.specs.Prelude.{Result, Ok, Err, Option, Some, None}
+use Rattle.word.specs.Refusal.{number, refused_with, refusing}
+use Rattle.word.specs.declared.refusal.Refusal.{Refusal}
 use mathlib.Core.Bool.{true, false, not}
 use mathlib.Core.List.{List, [], ◌∷◌, ◌++◌, map, Permᴰ}
 use mathlib.Core.Logic.{◌↔◌, ◌⊎◌}
@@ -13,8 +16,8 @@ use denote.MutBor.{MutBor, as_bor}
 use lib.ListN.{length, take, drop, get_or}
 use Rattle.word.specs.Bytes.{word_at}
 use Rattle.word.specs.Field.{field}
-use Rattle.insn.specs.Answer.{accepted, refused}
-use Rattle.insn.specs.declared.Decoded.{Decoded}
+use Rattle.insn.specs.Answer.{accepted, refused, insn_in}
+use Rattle.insn.specs.Answer.{Decoded}
 use Rattle.insn.specs.declared.Insn.{Insn}
 use Rattle.a32.specs.Decode.{decode_of, decode_bytes_of}
 use Rattle.a32.proofs.Groups.{Below}
@@ -22,9 +25,9 @@ use Rattle.encode_home.specs.declared.Filler.{Filler}
 use Rattle.encode_home.specs.declared.Filler.TheVariants.{Manual, Zeros}
 use Rattle.encode_home.specs.Home.{home_of}
 use Rattle.encode_home.specs.Alike.{Alike}
-use Rattle.encode.specs.declared.Encoded.{Encoded}
-use Rattle.word_packed.specs.Packed.{packed}
-use Rattle.section.specs.Section.{version_of, base_of, range_count, firsts, count_of, refusal_of, opened_of, places_of, here_of}
+use Rattle.encode.specs.Encode.{Encoded, word_in, home_answer}
+use Rattle.word_packed.specs.Packed.{packed, packed_answer}
+use Rattle.section.specs.Section.{version_of, base_of, range_count, firsts, count_of, refusal_of, opened_of, opened_in, opening_of, places_of, here_of}
 use Rattle.section.specs.Accepted.{Accepted}
 use Rattle.section.specs.declared.Here.TheVariants.{Word as WordHere, Data}
 use Rattle.section.specs.declared.Opened.{Opened}
@@ -32,15 +35,14 @@ use Rattle.section_convert.specs.Convert.{number_of, own_of, converted_of, conve
 use Rattle.section_convert.specs.declared.Target.{Target}
 use Rattle.section_convert.specs.declared.Target.TheVariants.{One, Two}
 use Rattle.text.specs.Text.{bytes, decimal_of, hex_of, written}
-use Rattle.text.specs.declared.Written.{Written}
+use Rattle.text.specs.Fits.{Written, len_in}
 use Rattle.line_spelling.specs.Line.{answer_text, line_text}
 use Rattle.listing_text.specs.Listing.{data_line, line_here, named_here, refused_here, data_here, total, closing_of, listing_of}
 use Rattle.callers_index.specs.Entries.{entries_of, found_of, left_of}
 use Rattle.callers_index.specs.Ordered.{In, Ordered}
 use Rattle.callers_index.specs.declared.Entry.{Entry}
 use Rattle.callers.specs.Calls.{IsCall}
-use Rattle.callers.specs.Index.{updated_of, Builds, Replaces}
-use Rattle.callers.specs.declared.Indexed.{Indexed}
+use Rattle.callers.specs.Index.{Indexed, updated_of, Builds, Replaces}
 use Rattle.home_form.specs.Changes.{changes_of, numbers_of, is_unindexed, unindexed_among}
 use Rattle.home_form.specs.HomeForm.{PutsHome}
 use Rattle.home_form.specs.Kept.{Bytes, Stays, Differs, Ascending}
@@ -51,16 +53,16 @@ use Rattle.walk_steps.specs.Steps.{steps_of}
 use Rattle.walk.specs.Reached.{Reached}
 use Rattle.walk.specs.Walk.{Walks}
 use Rattle.walk.specs.Kept.{NoWayOut, Kept}
-use Rattle.walk.specs.declared.Walked.{Walked}
+use Rattle.walk.specs.Walk as Walk
 use Rattle.tally.specs.Kinds.{is_named}
-use Rattle.tally.specs.Tally.{how_many, all_of, counts_of, sum, flows_of, roots_of, none_of, add_all, accepted_of, added_of}
+use Rattle.tally.specs.Tally.{how_many, all_of, counts_of, sum, flows_of, roots_of, none_of, left_by, add_all, accepted_of, added_of}
 use Rattle.tally.specs.Tally.{own_of as own_refusal, refusal_of as adding_refusal}
-use Rattle.tally.specs.declared.Added.{Added}
 use Rattle.tally.specs.declared.Tally.{Tally}
 use Rattle.patch.specs.Image.{Laid, ◌from◌, section_with, words_refusal}
 use Rattle.patch.specs.Part.{Fit, IsRun, NoRun}
 use Rattle.patch.specs.Run.{lies_at}
 use Rattle.patch.specs.declared.Found.{Found}
+use Rattle.patch.specs.Run.{refused_as, found_of as found_of_run}
 use Rattle.patched.specs.Patched.{patched_of, patched_refusal}
 use Rattle.patched.specs.Promise.{Patches}
 use Rattle.promises_predicated.specs.Predicated.{under}
@@ -74,7 +76,7 @@ use Rattle.insn_row.specs.Row.{row_of}
 use Rattle.rule_runs.specs.Runs.{Program, Verdict.violated, Verdict.undecided, Verdict.holds, Judges}
 use Rattle.rule_verdict.specs.Verdicts.{HOLDS, VIOLATED, UNDECIDED}
 use Rattle.rule_verdict.specs.Verdicts as Rule
-use Rattle.rule_verdict.specs.declared.Judged.{Judged}
+use Rattle.rule_verdict.specs.declared.Verdict.{Verdict}
 use Rattle.brassdozen.specs.Given.{Answers, here_row, encoded_of, WalksForC, found_for_c, BuildsForC, ReplacesForC, FindsForC, PutsHomeForC, JudgesForC}
 use Rattle.a32.proofs.decode as decode
 use Rattle.a32.proofs.decode_bytes as decode_bytes
@@ -167,11 +169,20 @@ Lent = MutBor (List ℕ)
 
 -- an answer that is no refusal
 abbrev Accepts : Decoded → Type 0
-Accepts d = d.refusal ≡ 0
+Accepts d = refused_with d ≡ 0
 
 -- a function meets its contract: it is safe, ends, and gives and leaves what the contract says; and it asks nothing of its input
 abbrev Taken : (Type 1 → Type 2) → {K : Type 0} {A : K → Type 0} → ((κs : K) → A κs → Type 0) → Type 2
 Taken statement Asked = ((M : Type 1) → statement M) × ((κs : _) (a : _) → Asked κs a)
+
+-- the number that a run is refused with, or 0
+abbrev refusal_number : Option Refusal → ℕ
+refusal_number None = 0
+refusal_number (Some r) = number r
+
+its_number : (found : Result Found Refusal) → refusal_number (refused_as found) ≡ refused_with found
+its_number (Ok found) = refl
+its_number (Err r) = refl
 
 -- a text is written: its length is given, it stands at the buffer's start, and what is after it stays; or it is longer than the buffer,
 -- 10 is given, and every byte stays
@@ -180,14 +191,18 @@ Puts gives text before r after =
     (length text ≤ length before → (r ≡ gives 0 (length text)) × (after ≡ text ++ drop (length text) before))
     × (length before < length text → (r ≡ gives 10 0) × (after ≡ before))
 
-abbrev given : ℕ → ℕ → Written
-given n len = record { refusal = n; len = len }
+-- what is given of a text: a refusal's number, or 0, and the length
+abbrev given : ℕ → ℕ → ℕ × ℕ
+given n len = (n, len)
+
+abbrev told : Written → ℕ × ℕ
+told r = (refused_with r, len_in r)
 
 -- the row of an accepted answer is written so, and its refusal alone given; another answer's refusal is given, and every number stays
 abbrev PutsRow : Decoded → (before : List ℕ) → ℕ → (after : List ℕ) → Type 0
 PutsRow d before r after =
-    (Accepts d → Puts (λ n len. n) (row_of d.insn) before r after)
-    × ((Accepts d → ⊥) → (r ≡ d.refusal) × (after ≡ before))
+    (Accepts d → Puts (λ n len. n) (row_of (insn_in d)) before r after)
+    × ((Accepts d → ⊥) → (r ≡ refused_with d) × (after ≡ before))
 
 -- a section is written so if n is 0; else n, the number of a refusal, is given, and every byte stays
 abbrev PutsSection : {A : Type 0} → (ℕ → ℕ → A) → (n : ℕ) (text before : List ℕ) → A → (after : List ℕ) → Type 0
@@ -216,7 +231,7 @@ module _ (κ κ' : Lft) where
   abbrev HasHomeByDefault : (w : ℕ) → Encoded → Type 0
   HasHomeByDefault w h = home.Reads.Post tt (w, tt) h (w, tt)
 
-  abbrev Opens : (bytes : Slice) → Opened → Type 0
+  abbrev Opens : (bytes : Slice) → Result Opened Refusal → Type 0
   Opens bytes o = open_section.Reads.Post (κ, tt) (bytes, tt) o (bytes, tt)
 
   abbrev WritesLine : (addr w : ℕ) (out : Lent) → Written → (out' : Lent) → Type 0
@@ -228,19 +243,19 @@ module _ (κ κ' : Lft) where
   abbrev Converts : (section : Slice) → Target → (out : Lent) → Written → (out' : Lent) → Type 0
   Converts section target out r out' = convert.Reads.Post (κ, (κ', tt)) (section, (target, (out, tt))) r (section, (target, (out', tt)))
 
-  abbrev WalksFrom : (section : Slice) (entry : ℕ) (out : Lent) → Walked → (out' : Lent) → Type 0
+  abbrev WalksFrom : (section : Slice) (entry : ℕ) (out : Lent) → Walk.Answer → (out' : Lent) → Type 0
   WalksFrom section entry out r out' = walk.Reads.Post (κ, (κ', tt)) (section, (entry, (out, tt))) r (section, (entry, (out', tt)))
 
-  abbrev Adds : (t : Tally) (section : Slice) → Added → Type 0
+  abbrev Adds : (t : Tally) (section : Slice) → Result Tally Refusal → Type 0
   Adds t section r = add.Reads.Post (κ, tt) (t, (section, tt)) r (t, (section, tt))
 
   -- one section after the other, from one tally to another
   abbrev AddsEach : Tally → List Slice → Tally → Type 0
   AddsEach t [] t' = t' ≡ t
-  AddsEach t (section ∷ sections) t' = (r : Added) × Adds t section r × AddsEach r.tally sections t'
+  AddsEach t (section ∷ sections) t' = (r : Result Tally Refusal) × Adds t section r × AddsEach (left_by t r) sections t'
 
   -- both slices of a run have one lifetime where a part of either is given
-  abbrev FindsRun : (section : Slice) (base : ℕ) (patch : Slice) (over addr len : ℕ) → Found → Type 0
+  abbrev FindsRun : (section : Slice) (base : ℕ) (patch : Slice) (over addr len : ℕ) → Result Found Refusal → Type 0
   FindsRun section base patch over addr len found =
       find.Reads.Post (κ, (κ', tt)) (section, (base, (patch, (over, (addr, (len, tt)))))) found (section, (base, (patch, (over, (addr, (len, tt))))))
 
@@ -248,9 +263,9 @@ module _ (κ κ' : Lft) where
   GivesRun section base patch over addr len part =
       run.Reads.Post (κ, tt) (section, (base, (patch, (over, (addr, (len, tt)))))) part (section, (base, (patch, (over, (addr, (len, tt))))))
 
-  abbrev RefusesRun : (section : Slice) (base : ℕ) (patch : Slice) (over addr len : ℕ) → ℕ → Type 0
-  RefusesRun section base patch over addr len n =
-      run_refusal.Reads.Post (κ, (κ', tt)) (section, (base, (patch, (over, (addr, (len, tt)))))) n
+  abbrev RefusesRun : (section : Slice) (base : ℕ) (patch : Slice) (over addr len : ℕ) → Option Refusal → Type 0
+  RefusesRun section base patch over addr len refusal =
+      run_refusal.Reads.Post (κ, (κ', tt)) (section, (base, (patch, (over, (addr, (len, tt)))))) refusal
       (section, (base, (patch, (over, (addr, (len, tt))))))
 
   abbrev WritesPatched : (section patch : Slice) (out : Lent) → Written → (out' : Lent) → Type 0
@@ -267,7 +282,7 @@ module _ (κ κ' : Lft) where
   FindsCallers index count target out r out' =
       callers.Reads.Post (κ, (κ', tt)) (index, (count, (target, (out, tt)))) r (index, (count, (target, (out', tt))))
 
-  abbrev PutsInHomeForm : (section list : Lent) → Changed → (section' list' : Lent) → Type 0
+  abbrev PutsInHomeForm : (section list : Lent) → Result Changed Refusal → (section' list' : Lent) → Type 0
   PutsInHomeForm section list r section' list' = home_form.Reads.Post (κ, (κ', tt)) (section, (list, tt)) r (section', (list', tt))
 
   -- and those for C and Rust
@@ -439,29 +454,29 @@ module _ (κ κ' : Lft) where
 
   -- A section is refused with the number of the first check that fails, in the order of documents 01 and 02, and accepted exactly if it is what they
   -- describe.
-  pub refused_section : (bytes : Slice) (o : Opened) → Opens bytes o → o.refusal ≡ refusal_of bytes.now
+  pub refused_section : (bytes : Slice) (o : Result Opened Refusal) → Opens bytes o → refused_with o ≡ refusal_of bytes.now
   refused_section bytes o is = rw is (Sections.same_refusal bytes.now)
 
-  pub accepted_section : (bytes : Slice) (o : Opened) → Opens bytes o → (o.refusal ≡ 0) ↔ Accepted bytes.now
+  pub accepted_section : (bytes : Slice) (o : Result Opened Refusal) → Opens bytes o → (refused_with o ≡ 0) ↔ Accepted bytes.now
   accepted_section bytes o is = rw (refused_section bytes o is) (Sections.accepted_exactly bytes.now)
 
   -- A line and a listing are written, or refused with 10, and then no byte is changed.
   pub writes_line : (addr w : ℕ) (out out' : Lent) (d : Decoded) (r : Written) → Decodes w addr d → WritesLine addr w out r out'
-      → Puts given (line_text addr w d) out.now r out'.now
-  writes_line addr w out out' d r is wrote = rw (wrote.0, wrote.1, is) (Left.puts given _ _)
+      → Puts given (line_text addr w d) out.now (told r) out'.now
+  writes_line addr w out out' d r is wrote = rw (wrote.0, wrote.1, is) (Left.puts given told (λ a. refl) _ _)
 
   pub writes_listing : (section : Slice) (out out' : Lent) (r : Written) → WritesListing section out r out'
-      → Puts given (listing_of section.now) out.now r out'.now
-  writes_listing section out out' r wrote = rw (wrote.0, wrote.1) (Left.puts given _ _)
+      → Puts given (listing_of section.now) out.now (told r) out'.now
+  writes_listing section out out' r wrote = rw (wrote.0, wrote.1) (Left.puts given told (λ a. refl) _ _)
 
   -- So they are for C and Rust, with the refusal's number above the length.
   pub writes_line_for_c : (addr w : ℕ) (out out' : Lent) (d : Decoded) (p : ℕ) → Decodes w addr d → WritesLineForC addr w out p out'
       → Puts packed (line_text addr w d) out.now p out'.now
-  writes_line_for_c addr w out out' d p is wrote = rw (wrote.0, wrote.1, is) (Left.puts packed _ _)
+  writes_line_for_c addr w out out' d p is wrote = rw (wrote.0, wrote.1, is) (Left.puts packed packed_answer Left.packed_parts _ _)
 
   pub writes_listing_for_c : (section : Slice) (out out' : Lent) (p : ℕ) → WritesListingForC section out p out'
       → Puts packed (listing_of section.now) out.now p out'.now
-  writes_listing_for_c section out out' p wrote = rw (wrote.0, wrote.1) (Left.puts packed _ _)
+  writes_listing_for_c section out out' p wrote = rw (wrote.0, wrote.1) (Left.puts packed packed_answer Left.packed_parts _ _)
 
   -- So is what stands at a place of an accepted section, as its address, the word, and 1 if it is data or else 0; from the number of its places on
   -- 13 is given. So from 0 up to there come all of its places, in order. Of another section its own number is given.
@@ -477,13 +492,13 @@ module _ (κ κ' : Lft) where
 
   -- A section is converted, or refused with its own number, with 12 or with 10, and then no byte is changed.
   pub converts : (section : Slice) (target : Target) (out out' : Lent) (r : Written) → Converts section target out r out'
-      → PutsSection given (conversion_refusal target section.now) (converted_of target section.now) out.now r out'.now
-  converts section target out out' r wrote = rw (wrote.0, wrote.1) (Left.puts_section given target _ _)
+      → PutsSection given (conversion_refusal target section.now) (converted_of target section.now) out.now (told r) out'.now
+  converts section target out out' r wrote = rw (wrote.0, wrote.1) (Left.puts_section given told (λ a. refl) target _ _)
 
   pub converts_for_c : (target : Target) (section : Slice) (out out' : Lent) (p : ℕ) → ConvertsForC target section out p out'
       → PutsSection packed (conversion_refusal target section.now) (converted_of target section.now) out.now p out'.now
-  converts_for_c One section out out' p wrote = rw (wrote.0, wrote.1) (Left.puts_section packed One _ _)
-  converts_for_c Two section out out' p wrote = rw (wrote.0, wrote.1) (Left.puts_section packed Two _ _)
+  converts_for_c One section out out' p wrote = rw (wrote.0, wrote.1) (Left.puts_section packed packed_answer Left.packed_parts One _ _)
+  converts_for_c Two section out out' p wrote = rw (wrote.0, wrote.1) (Left.puts_section packed packed_answer Left.packed_parts Two _ _)
 
   -- So is the row of an accepted word; of a word that is refused its number is given, and no number of what is lent is changed.
   pub writes_row : (w addr : ℕ) (row row' : Lent) (d : Decoded) (n : ℕ) → Decodes w addr d → DecodesToRow w addr row n row'
@@ -510,8 +525,8 @@ module _ (κ κ' : Lft) where
   follows_the_manual w addr d is range = rw is (Follows.follows_the_manual w addr range)
 
   -- The encoder turns an answer back into a word with that same answer, under either filler.
-  pub and_back : (c : Filler) (w addr : ℕ) (d : Decoded) (e : Encoded) → Word w → Decodes w addr d → Accepts d → EncodesTo c d.insn e
-      → Decodes e.word addr d
+  pub and_back : (c : Filler) (w addr : ℕ) (d : Decoded) (e : Encoded) → Word w → Decodes w addr d → Accepts d → EncodesTo c (insn_in d) e
+      → Decodes (word_in e) addr d
   and_back c w addr d e bound is ok to =
       is ∙ sym (rw (to, is, Encodes.encodes_home c w addr bound (rw (← is) ok)) (Same.home_decodes c w addr bound))
 
@@ -523,17 +538,21 @@ module _ (κ κ' : Lft) where
   same_answer c w v addr d d' bound bound' is is' ok ok' = rw (is, is') (Same.same_answer c w v addr bound bound' (rw (← is) ok) (rw (← is') ok'))
 
   -- Encoding an answer gives that home word.
-  pub encodes_home : (c : Filler) (w addr : ℕ) (d : Decoded) (e : Encoded) → Word w → Decodes w addr d → Accepts d → EncodesTo c d.insn e
-      → e ≡ record { refusal = 0; word = home_of c w }
+  pub encodes_home : (c : Filler) (w addr : ℕ) (d : Decoded) (e : Encoded) → Word w → Decodes w addr d → Accepts d → EncodesTo c (insn_in d) e
+      → e ≡ Ok (home_of c w)
   encodes_home c w addr d e bound is ok to = rw (to, is) (Encodes.encodes_home c w addr bound (rw (← is) ok))
 
   -- So does `home`; of a refused word it gives the refusal.
   pub home_word : (c : Filler) (w addr : ℕ) (d : Decoded) (h : Encoded) → Decodes w addr d → HasHome c w h
-      → (Accepts d → h ≡ record { refusal = 0; word = home_of c w }) × ((Accepts d → ⊥) → h ≡ record { refusal = d.refusal; word = 0 })
-  home_word c w addr d h is has =
-      (λ ok. has ∙ simp (at_zero, ok), λ refused. has ∙ simp (at_zero, ne_eqb d.refusal 0 refused))
+      → (Accepts d → h ≡ Ok (home_of c w)) × ((Accepts d → ⊥) → (refused_with h ≡ refused_with d) × (word_in h ≡ 0))
+  home_word c w addr d h is has = (
+    λ ok. has ∙ simp (at_zero, ok),
+    λ refused.
+        let is_refused : h ≡ refusing (refused_with d) = has ∙ simp (at_zero, ne_eqb (refused_with d) 0 refused) in
+        (ap (λ (e : Encoded). refused_with e) is_refused ∙ Left.refused_alike ℕ d refused, ap word_in is_refused),
+  )
     where
-      at_zero : (decode_of w 0).refusal ≡ d.refusal
+      at_zero : refused_with (decode_of w 0) ≡ refused_with d
       at_zero = rw is (Elsewhere.refused_anywhere w 0 addr)
 
   -- The default fills as the manual draws.
@@ -548,33 +567,33 @@ module _ (κ κ' : Lft) where
 
   -- The default is as drawn: the bits that a word's page draws in parentheses are so in its home word, but for the exceptions, in which they are not.
   pub as_drawn_lem : (w addr : ℕ) (d : Decoded) (h : Encoded) → Decodes w addr d → Accepts d → HasHome Manual w h
-      → as_drawn (page_of w) h.word ≡ not (excepted w)
+      → as_drawn (page_of w) (word_in h) ≡ not (excepted w)
   as_drawn_lem w addr d h is ok has = rw ((home_word Manual w addr d h is has).0 ok) (Drawn.home_as_drawn w addr (rw (← is) ok))
 
   -- And it does the same work: what the manual says of a word it says of its home word, but for the mark of minus zero, which is lost there, and for
   -- the unindexed form of a coprocessor's load or store, whose home word writes the base back.
   pub same_work : (c : Filler) (w addr : ℕ) (d : Decoded) (h : Encoded) → w < 2 ^ 32 → Decodes w addr d → Accepts d → HasHome c w h
-      → SaidAs (homely w) (said_at w addr) (said_at h.word addr)
+      → SaidAs (homely w) (said_at w addr) (said_at (word_in h) addr)
   same_work c w addr d h bound is ok has = rw ((home_word c w addr d h is has).0 ok) (Homes.home_reads c w addr bound (rw (← is) ok))
 
-  pub home_word_for_c : (c : Filler) (w p : ℕ) (h : Encoded) → HasHome c w h → HasHomeForC c w p → p ≡ packed h.refusal h.word
-  home_word_for_c Manual w p h has is = rw has is
-  home_word_for_c Zeros w p h has is = rw has is
+  pub home_word_for_c : (c : Filler) (w p : ℕ) (h : Encoded) → HasHome c w h → HasHomeForC c w p → p ≡ packed (refused_with h) (word_in h)
+  home_word_for_c Manual w p h has is = rw has (is ∙ Left.packed_word (home_answer Manual w))
+  home_word_for_c Zeros w p h has is = rw has (is ∙ Left.packed_word (home_answer Zeros w))
 
   -- An instruction value is refused, with 4, exactly if no word decodes to it at its address; and else a word that does is given.
   pub refuses_exactly : (c : Filler) (i : Insn) (e : Encoded) → EncodesTo c i e
-      → (e.refusal ≡ 4) ↔ ((w : ℕ) → Word w → Decodes w i.addr (accepted i) → ⊥)
+      → (refused_with e ≡ 4) ↔ ((w : ℕ) → Word w → Decodes w i.addr (accepted i) → ⊥)
   refuses_exactly c i e to =
       let exactly = Encodes.refuses_exactly c i in
       rw to (λ four w bound has. exactly.0 four w bound (sym has), λ none. exactly.1 (λ w bound has. none w bound (sym has)))
 
-  pub gives : (c : Filler) (i : Insn) (e : Encoded) → EncodesTo c i e → e.refusal ≡ 0 → Decodes e.word i.addr (accepted i)
+  pub gives : (c : Filler) (i : Insn) (e : Encoded) → EncodesTo c i e → refused_with e ≡ 0 → Decodes (word_in e) i.addr (accepted i)
   gives c i e to ok = sym (rw to (Encodes.gives c i (rw (← to) ok)))
 
   -- Beside them.
 
   -- A word is refused at every address or at none, with one number.
-  pub refused_anywhere : (w a b : ℕ) (d d' : Decoded) → Decodes w a d → Decodes w b d' → d.refusal ≡ d'.refusal
+  pub refused_anywhere : (w a b : ℕ) (d d' : Decoded) → Decodes w a d → Decodes w b d' → refused_with d ≡ refused_with d'
   refused_anywhere w a b d d' is is' = rw (is, is') (Elsewhere.refused_anywhere w a b)
 
   -- Conditional code is read once: of two words that differ in a condition below 15 alone, the answer to one is that to the other, under its own
@@ -611,8 +630,8 @@ module _ (κ κ' : Lft) where
   row_back Zeros w addr row row' p bound is to = to ∙ ap (encoded_of Zeros) is.1 ∙ Back.goes_home Zeros w addr row.now bound (sym is.0)
 
   -- The counts of a listing's closing line add up to the section's words.
-  pub adds_up : (bytes : Slice) (o : Opened) → Opens bytes o
-      → total named_here (places_of bytes.now) + total refused_here (places_of bytes.now) + total data_here (places_of bytes.now) ≡ o.count
+  pub adds_up : (bytes : Slice) (o : Result Opened Refusal) → Opens bytes o
+      → total named_here (places_of bytes.now) + total refused_here (places_of bytes.now) + total data_here (places_of bytes.now) ≡ (opened_in o).count
   adds_up bytes o is = rw is (Grow.adds_up bytes.now)
 
   -- Of version 1 all is as it was: every place has a word, the words start at byte 9, and the closing line has three counts.
@@ -641,8 +660,8 @@ module _ (κ κ' : Lft) where
   back_accepted s ok none = Conversion.back_possible s ok none
 
   -- A converted section is accepted, in the version that was asked for, with the base and at each place what the section had.
-  pub converted : (section lent : Slice) (out out' : Lent) (target : Target) (r : Written) → Converts section target out r out' → r.refusal ≡ 0
-      → lent.now ≡ take r.len out'.now
+  pub converted : (section lent : Slice) (out out' : Lent) (target : Target) (r : Written) → Converts section target out r out' → refused_with r ≡ 0
+      → lent.now ≡ take (len_in r) out'.now
       → (refusal_of lent.now ≡ 0)
       × (version_of lent.now ≡ number_of target)
       × (base_of lent.now ≡ base_of section.now)
@@ -657,23 +676,23 @@ module _ (κ κ' : Lft) where
       )
 
   -- There and back gives the same bytes, and the way back is refused only for want of room.
-  pub leads_back : (section lent : Slice) (out out' : Lent) (target : Target) (r : Written) → Converts section target out r out' → r.refusal ≡ 0
-      → lent.now ≡ take r.len out'.now → conversion_refusal (own_of section.now) lent.now ≡ 0
+  pub leads_back : (section lent : Slice) (out out' : Lent) (target : Target) (r : Written) → Converts section target out r out' → refused_with r ≡ 0
+      → lent.now ≡ take (len_in r) out'.now → conversion_refusal (own_of section.now) lent.now ≡ 0
   leads_back section lent out out' target r wrote ok is =
       let done = Left.is_converted target section.now out.now (rw wrote.0 at ok) in
       rw (is, wrote.0, wrote.1, done.1) (Conversion.back_accepted target section.now done.0)
 
   pub there_and_back : (section lent : Slice) (out out' out₂ out₂' : Lent) (target : Target) (r r₂ : Written)
-      → Converts section target out r out' → r.refusal ≡ 0 → lent.now ≡ take r.len out'.now
-      → Converts lent (own_of section.now) out₂ r₂ out₂' → r₂.refusal ≡ 0
-      → take r₂.len out₂'.now ≡ section.now
+      → Converts section target out r out' → refused_with r ≡ 0 → lent.now ≡ take (len_in r) out'.now
+      → Converts lent (own_of section.now) out₂ r₂ out₂' → refused_with r₂ ≡ 0
+      → take (len_in r₂) out₂'.now ≡ section.now
   there_and_back section lent out out' out₂ out₂' target r r₂ wrote ok is wrote₂ ok₂ =
       let there = Left.is_converted target section.now out.now (rw wrote.0 at ok) in
       let back = Left.is_converted (own_of section.now) lent.now out₂.now (rw wrote₂.0 at ok₂) in
       rw (wrote₂.0, wrote₂.1, back.1, is, wrote.0, wrote.1, there.1) (Conversion.back target section.now there.0)
 
   -- A walk is refused and changes nothing, or it reports, place by place, exactly what a chain of steps from the entry leads to, and each way out.
-  pub walks : (section : Slice) (entry : ℕ) (out out' : Lent) (r : Walked) → WalksFrom section entry out r out'
+  pub walks : (section : Slice) (entry : ℕ) (out out' : Lent) (r : Walk.Answer) → WalksFrom section entry out r out'
       → Walks section.now entry out.now r out'.now
   walks section entry out out' r is = is
 
@@ -683,14 +702,14 @@ module _ (κ κ' : Lft) where
 
   -- If it reports words that are reached and nothing else, each of them is an accepted word, and each way that it goes stays in the section; only
   -- returns and traps end a chain.
-  pub no_way_out : (section : Slice) (entry : ℕ) (out out' : Lent) (r : Walked) → WalksFrom section entry out r out' → r.refusal ≡ 0
-      → NoWayOut (take (3 * r.records) out'.now) → (p : ℕ) → Reached (steps_of section.now) entry p
-      → Kept (opened_of section.now) p (here_of section.now p)
+  pub no_way_out : (section : Slice) (entry : ℕ) (out out' : Lent) (r : Walk.Answer) → WalksFrom section entry out r out' → refused_with r ≡ 0
+      → NoWayOut (take (3 * (Walk.walked_in r).records) out'.now) → (p : ℕ) → Reached (steps_of section.now) entry p
+      → Kept (opening_of section.now) p (here_of section.now p)
   no_way_out section entry out out' r is ok quiet = Walking.no_way_out is ok quiet
 
   -- A section is added to a tally, or refused with its own number, or with 16 where 65,536 sections are in; and then the tally is as it was.
-  pub adds : (t : Tally) (section : Slice) (r : Added) → Adds t section r
-      → (r.refusal ≡ adding_refusal (own_refusal section.now) (get_or t.counts 0 0)) × ((r.refusal ≡ 0 → ⊥) → r.tally ≡ t)
+  pub adds : (t : Tally) (section : Slice) (r : Result Tally Refusal) → Adds t section r
+      → (refused_with r ≡ adding_refusal (own_refusal section.now) (get_or t.counts 0 0)) × ((refused_with r ≡ 0 → ⊥) → left_by t r ≡ t)
   adds t section r is = rw is (Tallied.answers t section.now, Tallied.stays t section.now)
 
   -- From zeros on each count is the number of what it counts in the sections that were added, the accepted ones up to 65,536, and none wraps.
@@ -699,7 +718,7 @@ module _ (κ κ' : Lft) where
     where
       each_added : (t₀ : Tally) (ss : List Slice) → AddsEach t₀ ss t → t ≡ add_all t₀ (map (λ x. x.now) ss)
       each_added t₀ [] is = is
-      each_added t₀ (s ∷ ss) is = each_added is.0.tally ss is.2 ∙ ap (λ (r : Added). add_all r.tally (map (λ x. x.now) ss)) is.1
+      each_added t₀ (s ∷ ss) is = each_added (left_by t₀ is.0) ss is.2 ∙ ap (λ (r : Result Tally Refusal). add_all (left_by t₀ r) (map (λ x. x.now) ss)) is.1
 
   -- Flows and roots each sum to the accepted words; words are data, refused with 2 or 3, or accepted.
   pub sums : (sections : List Slice) (t : Tally) → AddsEach none_of sections t
@@ -719,8 +738,8 @@ module _ (κ κ' : Lft) where
 
   -- For C and Rust a tally stands at the start of lent numbers, and those behind it stay. Fewer than 171 are no tally: they stay as they are, and 10
   -- is given after the section's own number.
-  pub adds_for_c : (section : Slice) (counts counts' : Lent) (n : ℕ) (t : Tally) (r : Added) (rest : List ℕ) → AddsForC section counts n counts'
-      → Adds t section r → 171 ≤ length t.counts → counts.now ≡ t.counts ++ rest → (n ≡ r.refusal) × (counts'.now ≡ r.tally.counts ++ rest)
+  pub adds_for_c : (section : Slice) (counts counts' : Lent) (n : ℕ) (t : Tally) (r : Result Tally Refusal) (rest : List ℕ) → AddsForC section counts n counts'
+      → Adds t section r → 171 ≤ length t.counts → counts.now ≡ t.counts ++ rest → (n ≡ refused_with r) × (counts'.now ≡ (left_by t r).counts ++ rest)
   adds_for_c section counts counts' n t r rest wrote is long tally =
       rw (wrote.0, wrote.1, is, tally) (Tallying.lent_refusal_lem t rest section.now long, Tallying.lent_last_lem t rest section.now long)
 
@@ -741,7 +760,14 @@ module _ (κ κ' : Lft) where
   words_refused l = unfold words_refusal in refl
 
   -- A run's number is that of the section's words, or else of the patch's, or else 14, exactly if the run is empty or neither holds all of it; or 0.
-  module _ (section : Slice) (base : ℕ) (patch : Slice) (over addr len n : ℕ) (is : RefusesRun section base patch over addr len n) where
+  module _ (section : Slice) (base : ℕ) (patch : Slice) (over addr len : ℕ) (refusal : Option Refusal)
+      (given : RefusesRun section base patch over addr len refusal) where
+    abbrev n : ℕ
+    n = refusal_number refusal
+
+    is : n ≡ refused_with (found_of_run (section.now from base) (patch.now from over) addr len)
+    is = ap refusal_number given ∙ its_number (found_of_run (section.now from base) (patch.now from over) addr len)
+
     pub section_first : (words_refusal (section.now from base) ≡ 0 → ⊥) → n ≡ words_refusal (section.now from base)
     section_first bad = is ∙ Runs.section_first (section.now from base) (patch.now from over) addr len bad
 
@@ -766,27 +792,27 @@ module _ (κ κ' : Lft) where
   one_run s p addr len part part' run run' = Runs.one_run s p addr len part part' run run'
 
   -- It lies where that slice lies, from that place on; C and Rust are given the place.
-  pub run_lies : (section : Slice) (base : ℕ) (patch : Slice) (over addr len : ℕ) (found : Found) (part : Slice)
+  pub run_lies : (section : Slice) (base : ℕ) (patch : Slice) (over addr len : ℕ) (found : Result Found Refusal) (part : Slice)
       → FindsRun section base patch over addr len found → GivesRun section base patch over addr len part
       → part.ref_ptr ≡ lies_at section.ref_ptr patch.ref_ptr found
   run_lies section base patch over addr len found part is gives = rw is gives.1
 
-  pub run_for_c : (section : Slice) (base : ℕ) (patch : Slice) (over addr len : ℕ) (found : Found) (p : ℕ)
+  pub run_for_c : (section : Slice) (base : ℕ) (patch : Slice) (over addr len : ℕ) (found : Result Found Refusal) (p : ℕ)
       → FindsRun section base patch over addr len found → FindsRunForC section base patch over addr len p → p ≡ found_for_c found
   run_for_c section base patch over addr len found p is gives = rw is gives
 
   -- A patched section is written, or refused with the section's number, then the patch's, then with 10, and then no byte is changed.
   pub writes_patched : (section patch : Slice) (out out' : Lent) (r : Written) → WritesPatched section patch out r out'
-      → PutsSection given (patched_refusal section.now patch.now) (patched_of section.now patch.now) out.now r out'.now
-  writes_patched section patch out out' r wrote = rw (wrote.0, wrote.1) (Left.puts_patched given section.now patch.now _)
+      → PutsSection given (patched_refusal section.now patch.now) (patched_of section.now patch.now) out.now (told r) out'.now
+  writes_patched section patch out out' r wrote = rw (wrote.0, wrote.1) (Left.puts_patched given told (λ a. refl) section.now patch.now _)
 
   pub writes_patched_for_c : (section patch : Slice) (out out' : Lent) (p : ℕ) → WritesPatchedForC section patch out p out'
       → PutsSection packed (patched_refusal section.now patch.now) (patched_of section.now patch.now) out.now p out'.now
-  writes_patched_for_c section patch out out' p wrote = rw (wrote.0, wrote.1) (Left.puts_patched packed section.now patch.now _)
+  writes_patched_for_c section patch out out' p wrote = rw (wrote.0, wrote.1) (Left.puts_patched packed packed_answer Left.packed_parts section.now patch.now _)
 
   -- It is accepted, with the section's header and ranges and at each place the image's word; where the patch does not reach all is as before.
-  pub patches : (section patch : Slice) (out out' : Lent) (r : Written) → WritesPatched section patch out r out' → r.refusal ≡ 0
-      → Patches section.now patch.now (take r.len out'.now)
+  pub patches : (section patch : Slice) (out out' : Lent) (r : Written) → WritesPatched section patch out r out' → refused_with r ≡ 0
+      → Patches section.now patch.now (take (len_in r) out'.now)
   patches section patch out out' r wrote ok =
       let done = Left.is_patched section.now patch.now out.now (rw wrote.0 at ok) in
       let both = Patched.accepted section.now patch.now done.0 in
@@ -797,8 +823,8 @@ module _ (κ κ' : Lft) where
   pub builds : (section : Slice) (index index' : Lent) (r : Indexed) → BuildsIndex section index r index' → Builds section.now index.now r index'.now
   builds section index index' r is = is
 
-  pub index_of_calls : (section : Slice) (index index' : Lent) (r : Indexed) → BuildsIndex section index r index' → r.refusal ≡ 0
-      → Ordered (entries_of index'.now r.count) × ((e : Entry) → In e (entries_of index'.now r.count) ↔ IsCall section.now e)
+  pub index_of_calls : (section : Slice) (index index' : Lent) (r : Indexed) → BuildsIndex section index r index' → refused_with r ≡ 0
+      → Ordered (entries_of index'.now (len_in r)) × ((e : Entry) → In e (entries_of index'.now (len_in r)) ↔ IsCall section.now e)
   index_of_calls section index index' r is ok =
       rw (Indexing.built is ok) (Calling.index_ordered section.now, Calling.holds_exactly section.now)
 
@@ -809,16 +835,16 @@ module _ (κ κ' : Lft) where
   replaces section section' index index' place w count r is = is
 
   pub same_steps : (section section' index index' : Lent) (place w count : ℕ) (r : Indexed)
-      → ReplacesWord section place w index count r section' index' → r.refusal ≡ 0
-      → entries_of index'.now r.count ≡ updated_of section.now place w (entries_of index.now count)
+      → ReplacesWord section place w index count r section' index' → refused_with r ≡ 0
+      → entries_of index'.now (len_in r) ≡ updated_of section.now place w (entries_of index.now count)
   same_steps section section' index index' place w count r is ok = Indexing.updated is ok
 
   -- If the index handed in was built from the old words, the updated one equals an index built afresh from the new words.
   pub as_built_afresh : (section section' index index' index'' fresh fresh' : Lent) (place w : ℕ) (r r₂ r₃ : Indexed)
-      → BuildsIndex (as_bor section) index r index' → r.refusal ≡ 0
-      → ReplacesWord section place w index' r.count r₂ section' index'' → r₂.refusal ≡ 0
-      → BuildsIndex (as_bor section') fresh r₃ fresh' → r₃.refusal ≡ 0
-      → entries_of index''.now r₂.count ≡ entries_of fresh'.now r₃.count
+      → BuildsIndex (as_bor section) index r index' → refused_with r ≡ 0
+      → ReplacesWord section place w index' (len_in r) r₂ section' index'' → refused_with r₂ ≡ 0
+      → BuildsIndex (as_bor section') fresh r₃ fresh' → refused_with r₃ ≡ 0
+      → entries_of index''.now (len_in r₂) ≡ entries_of fresh'.now (len_in r₃)
   as_built_afresh section section' index index' index'' fresh fresh' place w r r₂ r₃ was ok is ok₂ new ok₃ =
       Indexing.afresh is ok₂ (Indexing.built was ok) ∙ sym (Indexing.built new ok₃)
 
@@ -841,7 +867,7 @@ module _ (κ κ' : Lft) where
   finds_for_c index out out' count target p is = is
 
   -- Putting a section in its home form is refused and changes nothing, or each accepted word becomes its home word and the changes are listed.
-  pub puts_home : (section section' list list' : Lent) (r : Changed) → PutsInHomeForm section list r section' list'
+  pub puts_home : (section section' list list' : Lent) (r : Result Changed Refusal) → PutsInHomeForm section list r section' list'
       → PutsHome section.now list.now r section'.now list'.now
   puts_home section section' list list' r is = is
 
@@ -850,23 +876,23 @@ module _ (κ κ' : Lft) where
   puts_home_for_c section section' list list' p is = is
 
   -- The section is still accepted, with the same version, base and count, and the same bytes before its words: the header and the ranges.
-  pub still_accepted : (section section' list list' : Lent) (r : Changed) → PutsInHomeForm section list r section' list' → r.refusal ≡ 0
+  pub still_accepted : (section section' list list' : Lent) (r : Result Changed Refusal) → PutsInHomeForm section list r section' list' → refused_with r ≡ 0
       → (opened_of section'.now ≡ opened_of section.now)
-      × (take (opened_of section.now).start section'.now ≡ take (opened_of section.now).start section.now)
+      × (take (opening_of section.now).start section'.now ≡ take (opening_of section.now).start section.now)
   still_accepted section section' list list' r is ok = (Homing.still_opens is ok, Homing.still_headed is ok)
 
   -- Each place reads as before: a word has become its home word, with the same answer at the same address, and data is the same.
-  pub reads_as_before : (section section' list list' : Lent) (r : Changed) → PutsInHomeForm section list r section' list' → r.refusal ≡ 0
+  pub reads_as_before : (section section' list list' : Lent) (r : Result Changed Refusal) → PutsInHomeForm section list r section' list' → refused_with r ≡ 0
       → Bytes section.now → (p : ℕ) → Stays (here_of section.now p) (here_of section'.now p)
   reads_as_before section section' list list' r is ok bytes = Homing.still_reads is ok bytes
 
   -- The list has exactly the places where old and new words differ, in order, and at its start stand their numbers; both counts are those of the list.
-  pub lists_exactly : (section section' list list' : Lent) (r : Changed) → PutsInHomeForm section list r section' list' → r.refusal ≡ 0
+  pub lists_exactly : (section section' list list' : Lent) (r : Result Changed Refusal) → PutsInHomeForm section list r section' list' → refused_with r ≡ 0
       → Bytes section.now
       → ((c : Change) → Changes.In c (changes_of section.now) ↔ Differs section.now section'.now c)
       × Ascending (changes_of section.now)
       × (list'.now ≡ written list.now 0 (numbers_of (changes_of section.now)))
-      × (r ≡ record { refusal = 0; changes = length (changes_of section.now); unindexed = unindexed_among (changes_of section.now) })
+      × (r ≡ Ok (record { changes = length (changes_of section.now); unindexed = unindexed_among (changes_of section.now) }))
   lists_exactly section section' list list' r is ok bytes = (
     Homing.differ is ok bytes,
     HomeForms.ascending section.now,
@@ -875,10 +901,10 @@ module _ (κ κ' : Lft) where
   )
 
   -- A second run changes nothing and lists nothing, whatever list is lent.
-  pub second_run : (section section' list list' again list₂ again' list₂' : Lent) (r r₂ : Changed)
-      → PutsInHomeForm section list r section' list' → r.refusal ≡ 0 → Bytes section.now
+  pub second_run : (section section' list list' again list₂ again' list₂' : Lent) (r r₂ : Result Changed Refusal)
+      → PutsInHomeForm section list r section' list' → refused_with r ≡ 0 → Bytes section.now
       → again.now ≡ section'.now → PutsInHomeForm again list₂ r₂ again' list₂'
-      → (r₂ ≡ record { refusal = 0; changes = 0; unindexed = 0 }) × (again'.now ≡ again.now) × (list₂'.now ≡ list₂.now)
+      → (r₂ ≡ Ok (record { changes = 0; unindexed = 0 })) × (again'.now ≡ again.now) × (list₂'.now ≡ list₂.now)
   second_run section section' list list' again list₂ again' list₂' r r₂ is ok bytes same next =
       let done = Homing.stays_so is ok bytes (subst (λ (s : List ℕ). PutsHome s list₂.now r₂ again'.now list₂'.now) same next) in
       (done.0, done.1 ∙ sym same, done.2)
@@ -898,6 +924,7 @@ module _ (κ κ' : Lft) where
       known'.now dist'.now prior'.now way'.now
   judges_rule flags targets further entries known dist prior way known' dist' prior' way' p is = is
 
-  pub judges_exactly : {P : Program} {way last : List ℕ} (r : Judged) → Rule.Answers P way last r
-      → ((r.verdict ≡ VIOLATED) × Judges P violated) ⊎ (((r.verdict ≡ UNDECIDED) × Judges P undecided) ⊎ ((r.verdict ≡ HOLDS) × Judges P holds))
-  judges_exactly r a = Judging.judges r a
+  pub judges_exactly : {P : Program} {way last : List ℕ} (v : Verdict) → Rule.Answers P way last v
+      → ((Rule.number v ≡ VIOLATED) × Judges P violated)
+      ⊎ (((Rule.number v ≡ UNDECIDED) × Judges P undecided) ⊎ ((Rule.number v ≡ HOLDS) × Judges P holds))
+  judges_exactly v a = Judging.judges v a

@@ -1,5 +1,6 @@
 -- The unindexed form of ldc and stc, by its bits and by the manual's tables. Assumes nothing.
 use mathlib.Core.Path.{◌≡◌, refl, sym, ◌∙◌, subst}
+use Rattle.word.specs.Refusal.{refused_with}
 use mathlib.Core.Bool.{Bool, true, false, not}
 use mathlib.Core.Logic.{◌⊎◌, inl, inr}
 use Prim.Native.Nat.{ℕ, ◌^◌, ◌<◌}
@@ -91,7 +92,7 @@ module _ (w : ℕ) where
         (λ t. absurd (no_true (sym row_is ∙ none_above t))) also tt)
 
 -- What the manual says of a word that is not of the form and of its home word is the same, or it lacks the mark of minus zero.
-pub said_alike : (w addr : ℕ) → w < 2 ^ 32 → (decode_of w addr).refusal ≡ 0 → is_unindexed w ≡ false
+pub said_alike : (w addr : ℕ) → w < 2 ^ 32 → refused_with (decode_of w addr) ≡ 0 → is_unindexed w ≡ false
     → (said_at w addr ≡ said_at (home_of Manual w) addr) ⊎ (unmarked (said_at w addr) ≡ said_at (home_of Manual w) addr)
 said_alike w addr bound ok other =
     by_test (Read.is_unindexed (row_of w) w)

@@ -6,7 +6,7 @@ use lib.Dec.{eqb}
 use Rattle.encode_home.specs.Alike.{Alike, fields_alike}
 use Rattle.word.specs.Choice.{by_test}
 use Rattle.word.specs.Field.{field}
-use Rattle.insn.specs.declared.Decoded.{Decoded}
+use Rattle.insn.specs.Answer.{Decoded}
 use Rattle.a32_shared.specs.Shifts as Shifts
 use Rattle.a32_dp.specs.Names.{dp_name, shift_name}
 use Rattle.a32_dp.specs.DpReg.{dp_reg_of}

@@ -1,12 +1,13 @@
 -- What an answer under another condition is made of. Assumes nothing.
 use mathlib.Core.Path.{◌≡◌, refl, sym}
+use Rattle.word.specs.Refusal.{refused_with}
 use mathlib.Core.Bool.{Bool, true, false}
 use Prim.Native.Nat.{ℕ}
 use borrow.Author.Tests.{eqb-true}
 use lib.Dec.{eqb}
 use Rattle.word.specs.Choice.{pick, by_test}
-use Rattle.insn.specs.Answer.{insn_of, accepted, refused}
-use Rattle.insn.specs.declared.Decoded.{Decoded}
+use Rattle.insn.specs.Answer.{insn_of, accepted, refused, insn_in}
+use Rattle.insn.specs.Answer.{Decoded}
 use Rattle.insn.specs.declared.Flow.{Flow}
 use Rattle.insn.specs.declared.Flow.TheVariants.{Next, Branch, CondBranch, IndirectBranch, Call, IndirectCall, Return, Trap}
 use Rattle.insn.specs.declared.Insn.{Insn}
@@ -37,16 +38,16 @@ module _ (c : ℕ) where
 
 -- its parts
 module _ (c : ℕ) (d : Decoded) where
-  pub refusal_under : (under c d).refusal ≡ d.refusal
-  refusal_under = unfold under in by_test (eqb d.refusal 0) (λ e. simp e (sym (eqb-true d.refusal 0 e))) (λ e. simp e)
+  pub refusal_under : refused_with (under c d) ≡ refused_with d
+  refusal_under = unfold under in by_test (eqb (refused_with d) 0) (λ e. simp e (sym (eqb-true (refused_with d) 0 e))) (λ e. simp e)
 
-  pub name_under : (under c d).insn.name ≡ d.insn.name
-  name_under = unfold under in by_test (eqb d.refusal 0) (λ e. simp e) (λ e. simp e)
+  pub name_under : (insn_in (under c d)).name ≡ (insn_in d).name
+  name_under = unfold under in by_test (eqb (refused_with d) 0) (λ e. simp e) (λ e. simp e)
 
-  pub operands_under : (under c d).insn.ops ≡ d.insn.ops
-  operands_under = unfold under in by_test (eqb d.refusal 0) (λ e. simp e) (λ e. simp e)
+  pub operands_under : (insn_in (under c d)).ops ≡ (insn_in d).ops
+  operands_under = unfold under in by_test (eqb (refused_with d) 0) (λ e. simp e) (λ e. simp e)
 
-  pub flow_under : d.refusal ≡ 0 → (under c d).insn.flow ≡ flow_at c d.insn.flow
+  pub flow_under : refused_with d ≡ 0 → (insn_in (under c d)).flow ≡ flow_at c (insn_in d).flow
   flow_under ok = unfold under in simp ok
 
 -- no row of the home table asks for the condition, nor for what it changes of a flow
@@ -61,6 +62,6 @@ branches_under c Return = refl
 branches_under c Trap = refl
 
 pub home_under : (f : Filler) (c : ℕ) (d : Decoded) (w : ℕ) → home_by f (under c d) w ≡ home_by f d w
-home_under f c d w = unfold under puts_of in by_test (eqb d.refusal 0) (λ e. simp (e, branches_under)) (λ e. simp e)
+home_under f c d w = unfold under puts_of in by_test (eqb (refused_with d) 0) (λ e. simp (e, branches_under)) (λ e. simp e)
 
 pub ruleset laws = (through, flows_through, no_row_under, coprocessor_under, accepted_under)

@@ -1,5 +1,6 @@
 -- 02, P2: conditional code read once. Assumes nothing.
 use mathlib.Core.Path.{◌≡◌, refl, sym, ap, ◌∙◌}
+use Rattle.word.specs.Refusal.{refused_with}
 use mathlib.Core.Bool.{Bool, true}
 use mathlib.Core.List.{append_assoc}
 use Prim.Native.Nat.{ℕ, ◌+◌}
@@ -7,7 +8,7 @@ use borrow.Author.Tests.{eqb-false}
 use lib.Dec.{eqb, leb}
 use Rattle.word.specs.Choice.{by_test}
 use Rattle.word.specs.Field.{field}
-use Rattle.insn.specs.declared.Decoded.{Decoded}
+use Rattle.insn.specs.Answer.{Decoded, insn_in}
 use Rattle.a32.specs.Decode.{control_of, decode_of}
 use Rattle.a32.proofs.Groups.{Below, Group, unconditional, coprocessor, misc, halfword, dp_reg, multiply, sync, extra_ldst, dp_imm, ldst, ldst_index}
 use Rattle.a32.proofs.Groups.{media, block, branch, found, reaches}
@@ -22,7 +23,7 @@ use Rattle.promises_predicated.proofs.Groups as G
 
 -- the text of an answer under a condition
 text_under_lem : (c : ℕ) (d : Decoded) → answer_text (under c d) ≡ text_under c d
-text_under_lem c d = unfold under answer_text insn_text name_text in by_test (eqb d.refusal 0) (λ e. simp (e, append_assoc)) (λ e. simp e)
+text_under_lem c d = unfold under answer_text insn_text name_text in by_test (eqb (refused_with d) 0) (λ e. simp (e, append_assoc)) (λ e. simp e)
 
 module _ (w v addr : ℕ) (alike : Alike w v) (c : Below w) (c' : Below v) where
   -- fields below the condition, as they are in w
@@ -84,8 +85,8 @@ homes_alike f w v alike c c' =
   where
     both_by : (d : Decoded) → Alike (home_by f d w) (home_by f d v)
     both_by d =
-        by_test (eqb d.refusal 0)
-        (λ ok. simp ok (put_all_alike f (puts_of d.insn) (all_good d.insn) w v alike))
+        by_test (eqb (refused_with d) 0)
+        (λ ok. simp ok (put_all_alike f (puts_of (insn_in d)) (all_good (insn_in d)) w v alike))
         (λ refused. simp refused alike)
 
 module _ (w v addr : ℕ) (alike : Alike w v) (c : Below w) (c' : Below v) where
@@ -97,14 +98,14 @@ module _ (w v addr : ℕ) (alike : Alike w v) (c : Below w) (c' : Below v) where
   home_once f = homes_alike f w v alike c c'
 
   -- part by part
-  pub same_refusal : (decode_of v addr).refusal ≡ (decode_of w addr).refusal
-  same_refusal = ap (λ (d : Decoded). d.refusal) (read_once w v addr alike c c') ∙ refusal_under (field v 28 4) (decode_of w addr)
+  pub same_refusal : refused_with (decode_of v addr) ≡ refused_with (decode_of w addr)
+  same_refusal = ap (λ (d : Decoded). refused_with d) (read_once w v addr alike c c') ∙ refusal_under (field v 28 4) (decode_of w addr)
 
-  pub same_name : (decode_of v addr).insn.name ≡ (decode_of w addr).insn.name
-  same_name = ap (λ (d : Decoded). d.insn.name) (read_once w v addr alike c c') ∙ name_under (field v 28 4) (decode_of w addr)
+  pub same_name : (insn_in (decode_of v addr)).name ≡ (insn_in (decode_of w addr)).name
+  same_name = ap (λ (d : Decoded). (insn_in d).name) (read_once w v addr alike c c') ∙ name_under (field v 28 4) (decode_of w addr)
 
-  pub same_operands : (decode_of v addr).insn.ops ≡ (decode_of w addr).insn.ops
-  same_operands = ap (λ (d : Decoded). d.insn.ops) (read_once w v addr alike c c') ∙ operands_under (field v 28 4) (decode_of w addr)
+  pub same_operands : (insn_in (decode_of v addr)).ops ≡ (insn_in (decode_of w addr)).ops
+  same_operands = ap (λ (d : Decoded). (insn_in d).ops) (read_once w v addr alike c c') ∙ operands_under (field v 28 4) (decode_of w addr)
 
-  pub same_flow : (decode_of w addr).refusal ≡ 0 → (decode_of v addr).insn.flow ≡ flow_at (field v 28 4) (decode_of w addr).insn.flow
-  same_flow ok = ap (λ (d : Decoded). d.insn.flow) (read_once w v addr alike c c') ∙ flow_under (field v 28 4) (decode_of w addr) ok
+  pub same_flow : refused_with (decode_of w addr) ≡ 0 → (insn_in (decode_of v addr)).flow ≡ flow_at (field v 28 4) (insn_in (decode_of w addr)).flow
+  same_flow ok = ap (λ (d : Decoded). (insn_in d).flow) (read_once w v addr alike c c') ∙ flow_under (field v 28 4) (decode_of w addr) ok

@@ -3,9 +3,10 @@
 
 ghost use Rattle.std.specs.Prelude.{◌<◌};
 
-use rule_places::{CALLS, COMMITS, FURTHER, NEXT, OPENS, RETURNS, TARGET};
-use rule_verdict::{Judged, UNDECIDED, VIOLATED, judge};
+use rule_places::{CALLS, COMMITS, Coded, FURTHER, NEXT, OPENS, RETURNS, TARGET};
+use rule_verdict::{Verdict, judge};
 use std::io;
+use word::refusal::Refusal;
 
 /// Leaves the state as it is, stores, makes a barrier, or makes one under a condition.
 const KEEPS: u32 = 9;
@@ -20,46 +21,43 @@ fn number(rt: &impl Print, x: usize) -> io::Result<()> {
     print!(rt; " {x}")
 }
 
-fn place(rt: &impl Print, way: &[u32], i: usize) -> io::Result<()> {
-    if i < way.len() {
-        return number(rt, way[i] as usize);
-    }
-    Ok(())
-}
-
 fn places(rt: &impl Print, way: &[u32], n: usize) -> io::Result<()> {
-    for i in 0..n {
-        place(rt, way, i)?;
+    for &place in way.iter().take(n) {
+        number(rt, place as usize)?;
     }
     Ok(())
 }
 
-fn answer(rt: &impl Print, r: Judged, way: &[u32]) -> io::Result<()> {
-    if r.refusal != 0 {
-        rt.print("refused")?;
-        return number(rt, r.refusal as usize);
+fn answer(rt: &impl Print, r: Result<Verdict, Refusal>, way: &[u32]) -> io::Result<()> {
+    match r {
+        Err(refusal) => {
+            rt.print("refused")?;
+            number(rt, refusal.number() as usize)
+        }
+        Ok(Verdict::Violated(n)) => {
+            rt.print("violated")?;
+            places(rt, way, n)
+        }
+        Ok(Verdict::Undecided(place)) => {
+            rt.print("undecided")?;
+            number(rt, place)
+        }
+        Ok(Verdict::Holds) => rt.print("holds"),
     }
-    if r.verdict == VIOLATED {
-        rt.print("violated")?;
-        return places(rt, way, r.number);
-    }
-    if r.verdict == UNDECIDED {
-        rt.print("undecided")?;
-        return number(rt, r.number);
-    }
-    rt.print("holds")
 }
 
 fn show(rt: &impl Print, flags: &[u32; 10], further: &[u32]) -> io::Result<()> {
-    let targets = [6u32; 10];
-    let entries = [0u32; 1];
     let mut known = [0xffff_ffff; 2];
     let mut dist = [7u16; 24];
     let mut from = [7u16; 24];
     let mut way = [7u32; 24];
-    let r = judge(
-        flags, &targets, further, &entries, &mut known, &mut dist, &mut from, &mut way,
-    );
+    let program = Coded {
+        flags,
+        targets: &[6; 10],
+        further,
+        entries: &[0],
+    };
+    let r = judge(program, &mut known, &mut dist, &mut from, &mut way);
     answer(rt, r, &way)?;
     rt.print("\n")
 }

@@ -1,6 +1,7 @@
 -- A program in numbers: flags for each place, a target for each place, further targets as pairs of places, and entries.
 use Rattle.std.specs.Prelude.{◌≡◌, Bool, true, false, List, ◌⊎◌, ℕ, ◌+◌, ◌*◌, ◌/◌, ◌%◌, ◌<◌, eqb, length, get_or}
 use Rattle.rule_runs.specs.Runs.{Program}
+use Rattle.rule_places.specs.declared.Coded.{Coded}
 
 -- a flag is a bit of the number, given by its weight
 abbrev pub has : ℕ → ℕ → Bool
@@ -73,6 +74,10 @@ program_of flags targets further entries = record {
   opens = λ p. has (flags_at flags p) OPENS;
   entry = Entry entries;
 }
+
+-- the program in such numbers, with these entries
+abbrev pub coded : Coded → List ℕ → Program
+coded c entries = program_of c.flags.now c.targets.now c.further.now entries
 
 -- all numbers of a list are places
 abbrev pub Below : List ℕ → ℕ → Type 0

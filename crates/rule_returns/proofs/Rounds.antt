@@ -1,12 +1,13 @@
 -- A table that is worked on. Assumes nothing.
 use mathlib.Core.Path.{◌≡◌, refl, sym, ◌∙◌}
-use mathlib.Core.Bool.{Bool, true, false}
+use mathlib.Core.Bool.{Bool, true, false, ◌||◌}
 use mathlib.Core.List.{List}
 use mathlib.Core.Logic.{◌⊎◌, inl, inr, ⊎_elim, ◌↔◌}
 use Prim.Native.Nat.{ℕ, ◌+◌, ◌*◌, ◌/◌, ◌%◌, ◌-◌, ◌≤◌, ◌<◌}
 use native.Mathlib.Omega.{arith}
 use lib.Dec.{eqb}
 use lib.ListN.{length, get_or, set}
+use Rattle.std.specs.Int.{from_bool}
 use Rattle.walk_marks.specs.Marks.{marks_of, Marked, how_many}
 use Rattle.walk_marks.proofs.Marks.{length_marks, none_of}
 use Rattle.walk_marks.proofs.Marking.{set_only, one_more, count_below}
@@ -17,8 +18,8 @@ use Rattle.rule_runs.proofs.Exact.{once_ever}
 use Rattle.rule_runs.proofs.Tests.{true_false, not_both, either_way}
 use Rattle.rule_places.specs.Coded.{effect, program_of}
 use Rattle.rule_places.proofs.Flags.{flag_inside}
-use Rattle.rule_returns.specs.Table.{num, slot, Table, either, Better}
-use Rattle.rule_returns.proofs.Tables.{either_false, num_small, slot_same, slot_at}
+use Rattle.rule_returns.specs.Table.{slot, Table, Better}
+use Rattle.rule_returns.proofs.Tables.{or_false, or_num, num_small, slot_same, slot_at}
 
 -- mark i follows from others
 abbrev pub Follows : Program → List Bool → ℕ → Type 0
@@ -58,18 +59,14 @@ module _ {P : Program} (m : List Bool) (i : ℕ) where
           (set_only m (slot p s u) i (rw put at has))
 
 -- work after work
-either_num : (a b : Bool) → num (either a b) ≤ num a + num b
-either_num true b = omega arith
-either_num false b = omega arith
-
 pub better_then : {P : Program} {A B : ℕ → Type 0} {m m' m'' : List Bool} {a b : Bool} → Better P A m m' a → Better P B m' m'' b
-    → Better P (λ j. A j ⊎ B j) m m'' (either a b)
+    → Better P (λ j. A j ⊎ B j) m m'' (a || b)
 better_then {P} {A} {B} {a = a} {b = b} f g = record {
   sound = λ x. g.sound (f.sound x);
-  more = omega (arith, f.more, g.more, either_num a b);
-  still = λ e. let (x, y) = either_false a b e in g.still y ∙ f.still x;
+  more = omega (arith, f.more, g.more, or_num a b);
+  still = λ e. let (x, y) = or_false a b e in g.still y ∙ f.still x;
   closed = λ e p s u i o.
-      let (x, y) = either_false a b e in
+      let (x, y) = or_false a b e in
       ⊎_elim
       (λ (j : A (slot p s u)). rw (g.still y) (f.closed x p s u j (rw (g.still y) at o)))
       (λ (j : B (slot p s u)). g.closed y p s u j o)
@@ -79,15 +76,11 @@ better_then {P} {A} {B} {a = a} {b = b} f g = record {
 pub better_for : {P : Program} {A B : ℕ → Type 0} {m m' : List Bool} {r : Bool} → ((j : ℕ) → B j → A j) → Better P A m m' r → Better P B m m' r
 better_for h f = record { sound = f.sound; more = f.more; still = f.still; closed = λ e p s u i o. f.closed e p s u (h _ i) o }
 
-pub better_none : {P : Program} {A : ℕ → Type 0} {m : List Bool} → ((j : ℕ) → A j → ⊥) → Better P A m m false
-better_none h = record { sound = λ x. x; more = omega arith; still = λ e. refl; closed = λ e p s u i o. absurd (h _ i) }
-
 -- one mark more, from the last on
-pub one_further : {P : Program} {m m' m'' : List Bool} (n i i' : ℕ) {a b r : Bool} → i' + 1 ≡ i → r ≡ either a b
-    → Better P (λ j. (i ≤ j) × (j < n)) m m' a → Better P (λ j. j ≡ i') m' m'' b → Better P (λ j. (i' ≤ j) × (j < n)) m m'' r
-one_further n i i' s e f g =
-    rw e
-    (better_for (λ j (l, h). ⊎_elim (λ (x : i ≤ j). inl (x, h)) (λ (x : j < i). inr (omega arith)) (either_way i j)) (better_then f g))
+pub one_further : {P : Program} {m m' m'' : List Bool} (n i i' : ℕ) {a b : Bool} → i' + 1 ≡ i
+    → Better P (λ j. (i ≤ j) × (j < n)) m m' a → Better P (λ j. j ≡ i') m' m'' b → Better P (λ j. (i' ≤ j) × (j < n)) m m'' (a || b)
+one_further n i i' s f g =
+    better_for (λ j (l, h). ⊎_elim (λ (x : i ≤ j). inl (x, h)) (λ (x : j < i). inr (omega arith)) (either_way i j)) (better_then f g)
 
 -- at first nothing is marked
 pub none_said : (P : Program) (ws : List ℕ) → ((j : ℕ) → get_or ws j 0 ≡ 0) → Within (Table (marks_of ws)) (Ever P)
@@ -104,10 +97,12 @@ pub all_closed : (flags targets further entries : List ℕ) {m m' : List Bool} {
 all_closed flags targets further entries b e p s u o =
     b.closed e p s u (omega (arith, flag_inside flags p (effect s o.0) o.1, num_small s, num_small u)) o
 
--- each round makes this less: a mark is new, or it is the last
-abbrev pub unlearnt : List ℕ → Bool → ℕ
-unlearnt ws more = 2 * (32 * length ws - how_many (marks_of ws)) + num more
+-- each round that is not the last makes this less: a mark is new
+abbrev pub unlearnt : List ℕ → ℕ
+unlearnt ws = 32 * length ws - how_many (marks_of ws)
 
-pub fewer : (ws ws' : List ℕ) {P : Program} {A : ℕ → Type 0} {r more : Bool} → length ws' ≡ length ws → more ≡ true
-    → Better P A (marks_of ws) (marks_of ws') r → unlearnt ws' r < unlearnt ws more
-fewer ws ws' {r = r} long e f = rw e (omega (arith, f.more, count_below (marks_of ws'), length_marks ws', num_small r))
+pub fewer : (ws ws' : List ℕ) {P : Program} {A : ℕ → Type 0} {r : Bool} → length ws' ≡ length ws → r ≡ true
+    → Better P A (marks_of ws) (marks_of ws') r → unlearnt ws' < unlearnt ws
+fewer ws ws' {r = r} long e f =
+    let one : from_bool r ≡ 1 = rw e refl in
+    omega (arith, f.more, one, count_below (marks_of ws'), length_marks ws')

@@ -14,20 +14,8 @@ use Rattle.rule_runs.specs.Summaries.{Settled}
 use Rattle.rule_runs.proofs.Exact.{settled}
 use Rattle.rule_returns.specs.Table.{Table}
 use Rattle.rule_returns.proofs.Tables.{slot_at}
-use Rattle.rule_returns.proofs.both.Reads as both
-use Rattle.rule_returns.proofs.either.Reads as either
-use Rattle.rule_returns.proofs.num.Reads as num
 use Rattle.rule_returns.proofs.settle.Reads as settle
 use Rattle.rule_returns.proofs.table_at.Reads as table_at
-
-pub num_only : (κs : _) (a : _) (r r' : _) (s s' : _) → num.Post κs a r s → num.Post κs a r' s' → r ≡ r'
-num_only κs a r r' s s' p q = p.0 ∙ sym q.0
-
-pub both_only : (κs : _) (a : _) (r r' : _) (s s' : _) → both.Post κs a r s → both.Post κs a r' s' → r ≡ r'
-both_only κs a r r' s s' p q = p ∙ sym q
-
-pub either_only : (κs : _) (a : _) (r r' : _) (s s' : _) → either.Post κs a r s → either.Post κs a r' s' → r ≡ r'
-either_only κs a r r' s s' p q = p ∙ sym q
 
 pub table_at_only : (κs : _) (a : _) (r r' : _) (s s' : _) → table_at.Post κs a r s → table_at.Post κs a r' s' → r ≡ r'
 table_at_only κs a r r' s s' p q = p ∙ sym q
@@ -46,6 +34,6 @@ module _ {P : Program} where
   settled_only m m' long p q = same_marks m m' long (marks_in m m' p q) (marks_in m' m q p)
 
 pub settle_only : (κs : _) (a : _) (r r' : _) (s s' : _) → settle.Post κs a r s → settle.Post κs a r' s'
-    → length s.1.1.1.0.now ≡ length s'.1.1.1.0.now → marks_of s.1.1.1.0.now ≡ marks_of s'.1.1.1.0.now
+    → length s.1.0.now ≡ length s'.1.0.now → marks_of s.1.0.now ≡ marks_of s'.1.0.now
 settle_only κs a r r' s s' p q long =
-    settled_only _ _ (omega (arith, length_marks s.1.1.1.0.now, length_marks s'.1.1.1.0.now)) (p []) (q [])
+    settled_only _ _ (omega (arith, length_marks s.1.0.now, length_marks s'.1.0.now)) (p []) (q [])

@@ -1,43 +1,35 @@
 -- The search, layer by layer, for any steps. Assumes nothing.
 use mathlib.Core.Path.{◌≡◌, refl, sym, ap, ◌∙◌}
-use mathlib.Core.Bool.{Bool, true, false}
+use mathlib.Core.Bool.{Bool, true, false, ◌||◌}
 use mathlib.Core.List.{List}
 use mathlib.Core.Logic.{◌⊎◌, inl, inr, ⊎_elim}
 use Prim.Native.Nat.{ℕ, ◌+◌, ◌*◌, ◌-◌, ◌≤◌, ◌<◌}
 use native.Mathlib.Omega.{arith}
 use lib.ListN.{length, get_or}
+use Rattle.std.specs.Int.{from_bool}
 use Rattle.rule_runs.proofs.Tests.{either_way}
-use Rattle.rule_returns.specs.Table.{num, either}
-use Rattle.rule_returns.proofs.Tables.{either_false, num_small}
+use Rattle.rule_returns.proofs.Tables.{or_false, or_num, num_small}
 use Rattle.rule_search.specs.Search.{far, dst, reached_in, Spreads, TakesUp, Passes, Layer, Level, Measured}
-use Rattle.rule_search.proofs.Spreading.{reached_inside, count_below, either_num}
+use Rattle.rule_search.proofs.Spreading.{reached_inside, count_below}
 
 -- whether one is new
 pub none_taken : {d x : ℕ} {Y : ℕ → Type 0} {D F D' F' : List ℕ} {a b : Bool} → (a ≡ false → (y : ℕ) → dst D y < far → dst D y ≤ d)
-    → TakesUp Y x d D F D' F' b → either a b ≡ false → (y : ℕ) → dst D' y < far → dst D' y ≤ d
+    → TakesUp Y x d D F D' F' b → (a || b) ≡ false → (y : ℕ) → dst D' y < far → dst D' y ≤ d
 none_taken {a = a} {b = b} all (inl (here, s)) e y r =
-    let (f, g) = either_false a b e in let o = s.none g y r in omega (arith, (s.kept y o).0, all f y o)
-none_taken {a = a} {b = b} all (inr (other, e', f', n)) e y r = let (f, g) = either_false a b e in rw e' (all f y (rw e' at r))
+    let (f, g) = or_false a b e in let o = s.none g y r in omega (arith, (s.kept y o).0, all f y o)
+none_taken {a = a} {b = b} all (inr (other, e', f', n)) e y r = let (f, g) = or_false a b e in rw e' (all f y (rw e' at r))
 
-pub more_taken : {d x : ℕ} {Y : ℕ → Type 0} {D F D' F' : List ℕ} {b : Bool} (k : ℕ) (a : Bool) → k + num a ≤ reached_in D
-    → TakesUp Y x d D F D' F' b → k + num (either a b) ≤ reached_in D'
-more_taken {b = b} k a h (inl (here, s)) = omega (arith, s.more, either_num a b)
-more_taken {b = b} k a h (inr (other, e, f, n)) = rw e (omega (arith, either_num a b, ap num n))
+pub more_taken : {d x : ℕ} {Y : ℕ → Type 0} {D F D' F' : List ℕ} {b : Bool} (k : ℕ) (a : Bool) → k + from_bool a ≤ reached_in D
+    → TakesUp Y x d D F D' F' b → k + from_bool (a || b) ≤ reached_in D'
+more_taken {b = b} k a h (inl (here, s)) = omega (arith, s.more, or_num a b)
+more_taken {b = b} k a h (inr (other, e, f, n)) = rw e (omega (arith, or_num a b, ap from_bool n))
 
 -- each layer makes this less: it has a node, or is the last
 pub fewer : {Start : ℕ → Type 0} {Step : ℕ → ℕ → Type 0} {d : ℕ} {D F D' F' : List ℕ} {r more : Bool} → length D' ≡ length D → more ≡ true
-    → Passes Start Step d D F D' F' r → 2 * (length D' - reached_in D') + num r < 2 * (length D - reached_in D) + num more
+    → Passes Start Step d D F D' F' r → 2 * (length D' - reached_in D') + from_bool r < 2 * (length D - reached_in D) + from_bool more
 fewer {D' = D'} {r = r} long e f = rw e (omega (arith, f.more, count_below D', num_small r))
 
 module _ {Start : ℕ → Type 0} {Step : ℕ → ℕ → Type 0} where
-  pub level_begin : {d : ℕ} {D F : List ℕ} → Layer Start Step d D F → Level Start Step d 0 D F
-  level_begin {d} {D} l = record {
-    entered = l.entered;
-    low = λ y r. omega (arith, l.low y r);
-    sound = l.sound;
-    closed = λ y c. ⊎_elim (λ (h : dst D y < d). l.closed y h) (λ h. absurd (let z : ⊥ = omega (arith, h.1) in z)) c;
-  }
-
   -- a node that is not of the layer
   pub level_past : {d x : ℕ} {D F : List ℕ} → (dst D x ≡ d → ⊥) → Level Start Step d x D F → Level Start Step d (x + 1) D F
   level_past {d} {x} {D} other l = record {
@@ -104,7 +96,7 @@ module _ {Start : ℕ → Type 0} {Step : ℕ → ℕ → Type 0} where
   one_taken small (inr (other, e, f, n)) l = rw (e, f) (level_past other l)
 
   -- the next layer
-  pub level_end : {d : ℕ} {D F : List ℕ} (k : ℕ) {new : Bool} → d < far → d < k → k + num new ≤ reached_in D
+  pub level_end : {d : ℕ} {D F : List ℕ} (k : ℕ) {new : Bool} → d < far → d < k → k + from_bool new ≤ reached_in D
       → (new ≡ false → (y : ℕ) → dst D y < far → dst D y ≤ d) → Level Start Step d (length D) D F → Layer Start Step (d + 1) D F
   level_end {d} {D} {F} k {new} small few more none l = record {
     entered = l.entered;
@@ -118,7 +110,7 @@ module _ {Start : ℕ → Type 0} {Step : ℕ → ℕ → Type 0} where
   }
     where
       by : (b : Bool) → new ≡ b → (y : ℕ) → dst D y < far → dst D y < reached_in D
-      by true e y r = let n : num new ≡ 1 = rw e refl in omega (arith, l.low y r)
+      by true e y r = let n : from_bool new ≡ 1 = rw e refl in omega (arith, l.low y r)
       by false e y r = omega (arith, none e y r)
 
   -- the last one
@@ -144,5 +136,5 @@ module _ {Start : ℕ → Type 0} {Step : ℕ → ℕ → Type 0} where
       at_zero y h = ⊎_elim (λ (o : dst D₀ y < far). absurd (none y o)) (λ w. (w.0, w.1)) (s.only y h)
 
       by : (b : Bool) → r ≡ b → (y : ℕ) → dst D y < far → dst D y < reached_in D
-      by true e y h = let n : num r ≡ 1 = rw e refl in omega (arith, s.more, (at_zero y h).1)
+      by true e y h = let n : from_bool r ≡ 1 = rw e refl in omega (arith, s.more, (at_zero y h).1)
       by false e y h = absurd (none y (s.none e y h))

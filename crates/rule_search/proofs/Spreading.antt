@@ -1,6 +1,6 @@
 -- Nodes that are reached one after the other. Assumes nothing.
 use mathlib.Core.Path.{◌≡◌, refl, ◌∙◌}
-use mathlib.Core.Bool.{Bool, true, false}
+use mathlib.Core.Bool.{Bool, true, false, ◌||◌}
 use mathlib.Core.List.{List, [], ◌∷◌}
 use mathlib.Core.Logic.{◌⊎◌, inl, inr, ⊎_elim}
 use Prim.Native.Nat.{ℕ, zero, suc, ◌+◌, ◌≤◌, ◌<◌}
@@ -10,8 +10,7 @@ use lib.Dec.{eqb, ltb}
 use lib.ListN.{length, set, get_or-eq_default}
 use lib.Seq.{get_or-set_same, get_or-set_other}
 use Rattle.rule_runs.proofs.Tests.{by_test, true_false, either_way}
-use Rattle.rule_returns.specs.Table.{num, either}
-use Rattle.rule_returns.proofs.Tables.{either_false, num_small}
+use Rattle.rule_returns.proofs.Tables.{or_false, or_num, num_small}
 use Rattle.rule_search.specs.Search.{far, dst, reached_in, Spreads}
 
 -- a node that is reached is one
@@ -33,18 +32,11 @@ count_set (x ∷ D) zero d h f k =
     rw (was, is) (omega arith)
 count_set (x ∷ D) (suc q) d h f k = omega (arith, count_set D q d (omega arith) f k)
 
-pub either_num : (a b : Bool) → num (either a b) ≤ num a + num b
-either_num true b = omega arith
-either_num false b = omega arith
-
 -- nodes of the kinds before i
 abbrev pub Some : (ℕ → ℕ → Type 0) → ℕ → ℕ → Type 0
 Some Y i y = (j : ℕ) × (j < i) × Y j y
 
 module _ {x d : ℕ} where
-  pub spreads_none : {Y : ℕ → Type 0} {D F : List ℕ} → ((y : ℕ) → Y y → ⊥) → Spreads Y x d D F D F false
-  spreads_none h = record { kept = λ y r. (refl, refl); only = λ y r. inl r; done = λ y i. absurd (h y i); more = omega arith; none = λ e y r. r }
-
   pub spreads_for : {Y Z : ℕ → Type 0} {D F D' F' : List ℕ} {r : Bool} → ((y : ℕ) → Y y → Z y) → ((y : ℕ) → Z y → Y y)
       → Spreads Y x d D F D' F' r → Spreads Z x d D F D' F' r
   spreads_for {D = D} f g s = record {
@@ -56,7 +48,7 @@ module _ {x d : ℕ} where
   }
 
   pub spreads_then : {Y Z : ℕ → Type 0} {D F D' F' D'' F'' : List ℕ} {a b : Bool} → Spreads Y x d D F D' F' a → Spreads Z x d D' F' D'' F'' b
-      → Spreads (λ y. Y y ⊎ Z y) x d D F D'' F'' (either a b)
+      → Spreads (λ y. Y y ⊎ Z y) x d D F D'' F'' (a || b)
   spreads_then {Y} {Z} {D} {F} {D'} {F'} {D''} {F''} {a} {b} s t = record {
     kept = λ y r. let (e, f) = s.kept y r in let (e', f') = t.kept y (omega arith) in (e' ∙ e, f' ∙ f);
     only = λ y r. ⊎_elim
@@ -67,33 +59,12 @@ module _ {x d : ℕ} where
         (λ w. inr (inr w.0, w.1, w.2))
         (t.only y r);
     done = λ y i. ⊎_elim (λ (j : Y y). let h = s.done y j in omega (arith, (t.kept y h).0)) (λ (j : Z y). t.done y j) i;
-    more = omega (arith, s.more, t.more, either_num a b);
-    none = λ e y r. let (f, g) = either_false a b e in s.none f y (t.none g y r);
+    more = omega (arith, s.more, t.more, or_num a b);
+    none = λ e y r. let (f, g) = or_false a b e in s.none f y (t.none g y r);
   }
-
-  pub spreads_as : {Y : ℕ → Type 0} {D F D' F' : List ℕ} {r r' : Bool} → r' ≡ r → Spreads Y x d D F D' F' r → Spreads Y x d D F D' F' r'
-  spreads_as e s = rw e s
-
-  pub some_none : (Y : ℕ → ℕ → Type 0) {D F : List ℕ} → Spreads (λ y. Some Y 0 y) x d D F D F false
-  some_none Y = spreads_none (λ y (j, l, w). omega arith)
-
-  pub some_more : (Y : ℕ → ℕ → Type 0) (i : ℕ) {D F D' F' D'' F'' : List ℕ} {a b r : Bool} → r ≡ either a b
-      → Spreads (λ y. Some Y i y) x d D F D' F' a → Spreads (Y i) x d D' F' D'' F'' b → Spreads (λ y. Some Y (i + 1) y) x d D F D'' F'' r
-  some_more Y i e f g = spreads_as e (spreads_for to from (spreads_then f g))
-    where
-      to : (y : ℕ) → Some Y i y ⊎ Y i y → Some Y (i + 1) y
-      to y (inl (j, l, w)) = (j, omega arith, w)
-      to y (inr w) = (i, omega arith, w)
-
-      from : (y : ℕ) → Some Y (i + 1) y → Some Y i y ⊎ Y i y
-      from y (j, l, w) =
-          ⊎_elim (λ (h : i ≤ j). let same : j ≡ i = omega arith in inr (rw same at w)) (λ (h : j < i). inl (j, h, w)) (either_way i j)
 
 -- one node: it is reached already, or it is new
 module _ (D F : List ℕ) (q x d : ℕ) where
-  pub old_node : dst D q < far → Spreads (λ y. y ≡ q) x d D F D F false
-  old_node h = record { kept = λ y r. (refl, refl); only = λ y r. inl r; done = λ y e. rw e h; more = omega arith; none = λ e y r. r }
-
   pub new_node : q < length D → q < length F → far ≤ dst D q → d < far → Spreads (λ y. y ≡ q) x d D F (set D q d) (set F q x) true
   new_node h k free small = record {
     kept = λ y r. let other : y ≡ q → ⊥ = λ e. (let z : ⊥ = omega (arith, same_dst y e) in z) in

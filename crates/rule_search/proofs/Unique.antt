@@ -33,5 +33,5 @@ measured_only {D = D} {D' = D'} m m' y r =
     omega arith
 
 pub search_only : (κs : _) (a : _) (r r' : _) (s s' : _) → search.Post κs a r s → search.Post κs a r' s'
-    → (y : ℕ) → dst s.1.1.1.1.1.0.now y < far → dst s'.1.1.1.1.1.0.now y ≡ dst s.1.1.1.1.1.0.now y
+    → (y : ℕ) → dst s.1.1.0.now y < far → dst s'.1.1.0.now y ≡ dst s.1.1.0.now y
 search_only κs a r r' s s' p q = measured_only p q

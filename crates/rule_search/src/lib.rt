@@ -3,335 +3,247 @@
 //! A node is a place and a state, `2 * place + 1` where it is dirty. A layer is taken up by one pass over all nodes, so no list of them is kept.
 #![tactic(auto)]
 
-ghost use Rattle.std.specs.Prelude.{◌≡◌, true, false, List, ◌⊎◌, ℕ, ◌+◌, ◌*◌, ◌/◌, ◌≤◌, ◌<◌, length, get_or};
+ghost use Rattle.std.specs.Prelude.{◌≡◌, true, List, ◌⊎◌, ℕ, ◌+◌, ◌*◌, ◌/◌, ◌≤◌, ◌<◌, length, get_or};
 ghost use Rattle.walk_marks.specs.Marks.{marks_of};
-ghost use Rattle.rule_places.specs.Coded.{has, flags_at, FURTHER, Pair, Inside, Entry, program_of};
-ghost use Rattle.rule_returns.specs.Table.{num, Table};
-ghost use Rattle.rule_search.specs.Search.{node, StepTo, StartAt, far, dst, reached_in, Measured, Spreads, TakesUp, Passes, Enters, LeadsOn, Lent, Aims};
+ghost use Rattle.rule_places.specs.Coded.{has, effect, flags_at, target_at, NEXT, TARGET, FURTHER, CALLS, Pair, Inside, Entry, coded};
+ghost use Rattle.rule_returns.specs.Table.{Table};
+ghost use Rattle.rule_search.specs.Search.{node, StepTo, StartAt, far, dst, reached_in, Measured, TakesUp, Passes, Enters, LeadsOn, Lent, Ready, Fits, Notes, SameLists};
 
-use rule_places::{CALLS, FURTHER, NEXT, TARGET, has, leaves, target};
-use rule_returns::{both, either, num, table_at};
+use rule_places::{CALLS, Coded, FURTHER, NEXT, TARGET};
+use rule_returns::table_at;
 
-/// What stands for "not reached".
+/// What stands for "not reached" in the lists that are lent. C lends them, as numbers of 16 bits, so there is no room for an Option.
 pub const FAR: u16 = 65535;
 
-/// Notes that the node `q` is reached from `x` in `d` steps, if it was not reached. Whether that is new.
-fn reach(dist: &mut [u16], from: &mut [u16], q: usize, x: usize, d: usize) -> bool
-    requires { (q < length dist.old) × (length from.old ≡ length dist.old) × (x < 65536) × (d < 65535) }
-    ensures { Spreads (λ y. y ≡ q) x d dist.old from.old dist.new from.new result }
-{
-    if dist[q] < FAR {
-        return false;
-    }
-    dist[q] = d as u16;
-    from[q] = x as u16;
-    true
-}
-
-fn reach_if(dist: &mut [u16], from: &mut [u16], yes: bool, q: usize, x: usize, d: usize) -> bool
-    requires { (yes ≡ true → q < length dist.old) × (length from.old ≡ length dist.old) × (x < 65536) × (d < 65535) }
-    ensures { Spreads (λ y. (yes ≡ true) × (y ≡ q)) x d dist.old from.old dist.new from.new result }
-{
-    if yes {
-        reach(dist, from, q, x, d)
-    } else {
-        false
-    }
-}
-
-/// Enters the target `q` of `p` in state `v`; where it is called, it may come back to the next place.
-fn enter(
-    known: &[u32],
-    dist: &mut [u16],
-    from: &mut [u16],
-    calls: bool,
-    q: usize,
-    v: bool,
-    p: usize,
+/// A step from the node `x`, whose place `p` leaves state `v`, to what is then `d` steps away.
+#[derive(Clone, Copy)]
+struct Step {
     x: usize,
     d: usize,
-) -> bool
-    requires { (2 * q + 1 < length dist.old) × (2 * p + 3 < length dist.old) × (length dist.old ≤ 8194) × (length from.old ≡ length dist.old) × (x < 65536) × (d < 65535) }
-    ensures { Spreads (Enters (marks_of known.now) calls q v p) x d dist.old from.old dist.new from.new result }
-{
-    let into = reach(dist, from, 2 * q + num(v), x, d);
-    let clean = both(calls, table_at(known, q, v, false));
-    let back = reach_if(dist, from, clean, 2 * (p + 1), x, d);
-    let dirty = both(calls, table_at(known, q, v, true));
-    let soiled = reach_if(dist, from, dirty, 2 * (p + 1) + 1, x, d);
-    either(into, either(back, soiled))
+    p: usize,
+    v: bool,
 }
 
-fn enter_if(
-    known: &[u32],
-    dist: &mut [u16],
-    from: &mut [u16],
-    yes: bool,
-    calls: bool,
-    q: usize,
-    v: bool,
-    p: usize,
-    x: usize,
-    d: usize,
-) -> bool
-    requires { (yes ≡ true → 2 * q + 1 < length dist.old) × (2 * p + 3 < length dist.old) × (length dist.old ≤ 8194) × (length from.old ≡ length dist.old) × (x < 65536) × (d < 65535) }
-    ensures { Spreads (λ y. (yes ≡ true) × Enters (marks_of known.now) calls q v p y) x d dist.old from.old dist.new from.new result }
+/// The node of the place `p` in state `s`.
+fn node(p: usize, s: bool) -> usize
+    requires { p ≤ 4294967296 }
+    ensures { result ≡ node p s }
 {
-    if yes {
-        enter(known, dist, from, calls, q, v, p, x, d)
-    } else {
-        false
+    2 * p + usize::from(s)
+}
+
+/// What is noted of each node, in lists that are lent: how far it is, and the node before it on the way.
+#[derive(Drop)]
+struct Reached<'a> {
+    dist: &'a mut [u16],
+    from: &'a mut [u16],
+}
+
+impl Reached<'_> {
+    /// Notes that the node `q` is reached from `x` in `d` steps, if it was not reached. Whether that is new.
+    fn reach(&mut self, q: usize, x: usize, d: usize) -> bool
+        requires { (q < length self.old.dist.now) × (length self.old.from.now ≡ length self.old.dist.now) × (x < 65536) × (d < 65535) }
+        ensures same { SameLists self.old self.new }
+        ensures noted { Notes (λ y. y ≡ q) x d self.old self.new result }
+    {
+        if self.dist[q] < FAR {
+            return false;
+        }
+        self.dist[q] = d as u16;
+        self.from[q] = x as u16;
+        true
     }
-}
 
-/// Enters the second place of pair `i`, if the first is `p`.
-fn enter_pair(
-    further: &[u32],
-    known: &[u32],
-    dist: &mut [u16],
-    from: &mut [u16],
-    calls: bool,
-    v: bool,
-    p: usize,
-    x: usize,
-    d: usize,
-    i: usize,
-) -> bool
-    requires i_in_bounds { (i < length further.now / 2) × ((j : ℕ) → j < length further.now → 2 * get_or further.now j 0 + 1 < length dist.old) }
-    requires p_in_bounds { (2 * p + 3 < length dist.old) × (length dist.old ≤ 8194) × (length from.old ≡ length dist.old) × (x < 65536) × (d < 65535) }
-    ensures { Spreads (λ y. (get_or further.now (2 * i) 0 ≡ p) × Enters (marks_of known.now) calls (get_or further.now (2 * i + 1) 0) v p y) x d dist.old from.old dist.new from.new result }
-{
-    if further[2 * i] as usize == p {
-        enter(
-            known,
-            dist,
-            from,
-            calls,
-            further[2 * i + 1] as usize,
-            v,
-            p,
+    /// Reaches the next place in state `w`, if what is called at `q` comes back in it.
+    fn come_back(&mut self, known: &[u32], q: usize, w: bool, step: Step) -> bool
+        requires { (q ≤ 4096) × Fits step self.old }
+        ensures same { SameLists self.old self.new }
+        ensures noted { Notes (λ y. Table (marks_of known.now) q step.v w × (y ≡ node (step.p + 1) w)) step.x step.d self.old self.new result }
+    {
+        table_at(known, q, step.v, w) && self.reach(node(step.p + 1, w), step.x, step.d)
+    }
+
+    /// Enters the target `q`; where it is called, it may come back to the next place.
+    fn enter(&mut self, known: &[u32], calls: bool, q: usize, step: Step) -> bool
+        requires { (2 * q + 1 < length self.old.dist.now) × Fits step self.old }
+        ensures same { SameLists self.old self.new }
+        ensures noted { Notes (Enters (marks_of known.now) calls q step.v step.p) step.x step.d self.old self.new result }
+    {
+        let into = self.reach(node(q, step.v), step.x, step.d);
+        if !calls {
+            return into;
+        }
+        let clean = self.come_back(known, q, false, step);
+        let dirty = self.come_back(known, q, true, step);
+        into | clean | dirty
+    }
+
+    /// Enters the second place of pair `i`, if the first is the step's.
+    fn enter_pair(
+        &mut self,
+        further: &[u32],
+        known: &[u32],
+        calls: bool,
+        i: usize,
+        step: Step,
+    ) -> bool
+        requires i_in_bounds { (i < length further.now / 2) × ((j : ℕ) → j < length further.now → 2 * get_or further.now j 0 + 1 < length self.old.dist.now) }
+        requires p_in_bounds { Fits step self.old }
+        ensures same { SameLists self.old self.new }
+        ensures noted { Notes (λ y. (get_or further.now (2 * i) 0 ≡ step.p) × Enters (marks_of known.now) calls (get_or further.now (2 * i + 1) 0) step.v step.p y) step.x step.d self.old self.new result }
+    {
+        further[2 * i] as usize == step.p
+            && self.enter(known, calls, further[2 * i + 1] as usize, step)
+    }
+
+    /// The same for all pairs.
+    fn enter_pairs(&mut self, further: &[u32], known: &[u32], calls: bool, step: Step) -> bool
+        requires by_index { (j : ℕ) → j < length further.now → 2 * get_or further.now j 0 + 1 < length self.old.dist.now }
+        requires p_in_bounds { Fits step self.old }
+        ensures same { SameLists self.old self.new }
+        ensures noted { Notes (λ y. (q : ℕ) × Pair further.now step.p q × Enters (marks_of known.now) calls q step.v step.p y) step.x step.d self.old self.new result }
+    {
+        // By the pair's number, as in `rule_returns`.
+        let mut new = false;
+        for i in 0..further.len() / 2 {
+            new |= self.enter_pair(further, known, calls, i, step);
+        }
+        new
+    }
+
+    /// Goes on to the next place, where the step's does.
+    fn go_on(&mut self, program: Coded, step: Step) -> bool
+        requires { Fits step self.old }
+        ensures same { SameLists self.old self.new }
+        ensures noted { Notes (λ y. (has (flags_at program.entry.flags.now step.p) NEXT ≡ true) × (y ≡ node (step.p + 1) step.v)) step.x step.d self.old self.new result }
+    {
+        program.has(step.p, NEXT) && self.reach(node(step.p + 1, step.v), step.x, step.d)
+    }
+
+    /// Enters the target of the step's place.
+    fn enter_target(&mut self, program: Coded, known: &[u32], step: Step) -> bool
+        requires { Ready program self.old × (step.p < length program.flags.now) × (step.x < 65536) × (step.d < 65535) }
+        ensures same { SameLists self.old self.new }
+        ensures noted { Notes (λ y. (has (flags_at program.entry.flags.now step.p) TARGET ≡ true) × Enters (marks_of known.now) (has (flags_at program.entry.flags.now step.p) CALLS) (target_at program.entry.flags.now program.entry.targets.now step.p) step.v step.p y) step.x step.d self.old self.new result }
+    {
+        program.has(step.p, TARGET)
+            && self.enter(
+                known,
+                program.has(step.p, CALLS),
+                program.target(step.p),
+                step,
+            )
+    }
+
+    /// Enters its further targets.
+    fn enter_further(&mut self, program: Coded, known: &[u32], step: Step) -> bool
+        requires { Ready program self.old × (step.p < length program.flags.now) × (step.x < 65536) × (step.d < 65535) }
+        ensures same { SameLists self.old self.new }
+        ensures noted { Notes (λ y. (has (flags_at program.entry.flags.now step.p) FURTHER ≡ true) × ((q : ℕ) × Pair program.entry.further.now step.p q × Enters (marks_of known.now) (has (flags_at program.entry.flags.now step.p) CALLS) q step.v step.p y)) step.x step.d self.old self.new result }
+    {
+        program.has(step.p, FURTHER)
+            && self.enter_pairs(program.further, known, program.has(step.p, CALLS), step)
+    }
+
+    /// Where the step leads.
+    fn lead_on(&mut self, program: Coded, known: &[u32], step: Step) -> bool
+        requires { Ready program self.old × (step.p < length program.flags.now) × (step.x < 65536) × (step.d < 65535) }
+        ensures same { SameLists self.old self.new }
+        ensures noted { Notes (LeadsOn program.entry.flags.now program.entry.targets.now program.entry.further.now (marks_of known.now) step.p step.v) step.x step.d self.old self.new result }
+    {
+        let on = self.go_on(program, step);
+        let aimed = self.enter_target(program, known, step);
+        let more = self.enter_further(program, known, step);
+        on | aimed | more
+    }
+
+    /// The same, if its place may leave the step's state where it finds `s`.
+    fn leave(&mut self, program: Coded, known: &[u32], s: bool, step: Step) -> bool
+        requires { Ready program self.old × (step.x < 65536) × (step.d < 65535) }
+        ensures same { SameLists self.old self.new }
+        ensures noted { Notes (λ y. (has (flags_at program.entry.flags.now step.p) (effect s step.v) ≡ true) × LeadsOn program.entry.flags.now program.entry.targets.now program.entry.further.now (marks_of known.now) step.p step.v y) step.x step.d self.old self.new result }
+    {
+        program.leaves(step.p, s, step.v) && self.lead_on(program, known, step)
+    }
+
+    /// Where the node `x` leads, in `d` steps.
+    fn spread(&mut self, program: Coded, known: &[u32], x: usize, d: usize) -> bool
+        requires { Ready program self.old × (x < 65536) × (d < 65535) }
+        ensures same { SameLists self.old self.new }
+        ensures noted { (entries : List ℕ) → Notes (StepTo (coded program.entry entries) (Table (marks_of known.now)) x) x d self.old self.new result }
+    {
+        let s = x % 2 == 1;
+        let step = Step {
             x,
             d,
-        )
-    } else {
-        false
+            p: x / 2,
+            v: false,
+        };
+        let clean = self.leave(program, known, s, step);
+        let dirty = self.leave(program, known, s, Step { v: true, ..step });
+        clean | dirty
     }
-}
 
-/// The same for all pairs.
-fn enter_pairs(
-    further: &[u32],
-    known: &[u32],
-    dist: &mut [u16],
-    from: &mut [u16],
-    calls: bool,
-    v: bool,
-    p: usize,
-    x: usize,
-    d: usize,
-) -> bool
-    requires by_index { (j : ℕ) → j < length further.now → 2 * get_or further.now j 0 + 1 < length dist.old }
-    requires p_in_bounds { (2 * p + 3 < length dist.old) × (length dist.old ≤ 8194) × (length from.old ≡ length dist.old) × (x < 65536) × (d < 65535) }
-    ensures { Spreads (λ y. (q : ℕ) × Pair further.now p q × Enters (marks_of known.now) calls q v p y) x d dist.old from.old dist.new from.new result }
-{
-    let mut new = false;
-    let mut i = 0;
-    while i < further.len() / 2 {
-        let more = enter_pair(further, known, dist, from, calls, v, p, x, d, i);
-        new = either(new, more);
-        i += 1;
+    /// Takes up the node `x`, if it is of layer `d`.
+    fn spread_at(&mut self, program: Coded, known: &[u32], x: usize, d: usize) -> bool
+        requires { Ready program self.old × (x < length self.old.dist.now) × (d < 65534) }
+        ensures same { SameLists self.old self.new }
+        ensures noted { (entries : List ℕ) → TakesUp (StepTo (coded program.entry entries) (Table (marks_of known.now)) x) x d self.old.dist.now self.old.from.now self.new.dist.now self.new.from.now result }
+    {
+        self.dist[x] as usize == d && self.spread(program, known, x, d + 1)
     }
-    new
-}
 
-/// The same for the further targets of `p`.
-fn enter_further(
-    flags: &[u32],
-    further: &[u32],
-    known: &[u32],
-    dist: &mut [u16],
-    from: &mut [u16],
-    calls: bool,
-    v: bool,
-    p: usize,
-    x: usize,
-    d: usize,
-) -> bool
-    requires by_index { (j : ℕ) → j < length further.now → 2 * get_or further.now j 0 + 1 < length dist.old }
-    requires p_in_bounds { (2 * p + 3 < length dist.old) × (length dist.old ≤ 8194) × (length from.old ≡ length dist.old) × (x < 65536) × (d < 65535) }
-    ensures { Spreads (λ y. (has (flags_at flags.now p) FURTHER ≡ true) × ((q : ℕ) × Pair further.now p q × Enters (marks_of known.now) calls q v p y)) x d dist.old from.old dist.new from.new result }
-{
-    if has(flags, p, FURTHER) {
-        enter_pairs(further, known, dist, from, calls, v, p, x, d)
-    } else {
-        false
+    /// Takes up the nodes of layer `d`. Whether one is new.
+    fn layer(&mut self, program: Coded, known: &[u32], d: usize) -> bool
+        requires { Ready program self.old × (d < reached_in self.old.dist.now) }
+        ensures same { SameLists self.old self.new }
+        ensures noted { (entries : List ℕ) → Passes (StartAt (coded program.entry entries)) (StepTo (coded program.entry entries) (Table (marks_of known.now))) d self.old.dist.now self.old.from.now self.new.dist.now self.new.from.now result }
+    {
+        let mut new = false;
+        // By number: a node is its number.
+        for x in 0..self.dist.len() {
+            new |= self.spread_at(program, known, x, d);
+        }
+        new
     }
-}
 
-/// Where the place `p` leads that leaves state `v`.
-fn lead_on(
-    flags: &[u32],
-    targets: &[u32],
-    further: &[u32],
-    known: &[u32],
-    dist: &mut [u16],
-    from: &mut [u16],
-    p: usize,
-    v: bool,
-    x: usize,
-    d: usize,
-) -> bool
-    requires { Lent flags.now dist.old from.old × Aims flags.now targets.now further.now × (p < length flags.now) × (x < 65536) × (d < 65535) }
-    ensures { Spreads (LeadsOn flags.now targets.now further.now (marks_of known.now) p v) x d dist.old from.old dist.new from.new result }
-{
-    let next = has(flags, p, NEXT);
-    let on = reach_if(dist, from, next, 2 * (p + 1) + num(v), x, d);
-    let calls = has(flags, p, CALLS);
-    let aims = has(flags, p, TARGET);
-    let to = target(flags, targets, p);
-    let aimed = enter_if(known, dist, from, aims, calls, to, v, p, x, d);
-    let more = enter_further(flags, further, known, dist, from, calls, v, p, x, d);
-    either(on, either(aimed, more))
-}
-
-fn lead_on_if(
-    flags: &[u32],
-    targets: &[u32],
-    further: &[u32],
-    known: &[u32],
-    dist: &mut [u16],
-    from: &mut [u16],
-    yes: bool,
-    p: usize,
-    v: bool,
-    x: usize,
-    d: usize,
-) -> bool
-    requires { Lent flags.now dist.old from.old × Aims flags.now targets.now further.now × (yes ≡ true → p < length flags.now) × (x < 65536) × (d < 65535) }
-    ensures { Spreads (λ y. (yes ≡ true) × LeadsOn flags.now targets.now further.now (marks_of known.now) p v y) x d dist.old from.old dist.new from.new result }
-{
-    if yes {
-        lead_on(flags, targets, further, known, dist, from, p, v, x, d)
-    } else {
-        false
+    /// Reaches the entries, dirty. Whether there is one.
+    fn begin(&mut self, entries: &[u32]) -> bool
+        requires { (length self.old.from.now ≡ length self.old.dist.now) × ((i : ℕ) → i < length entries.now → 2 * get_or entries.now i 0 + 1 < length self.old.dist.now) }
+        ensures same { SameLists self.old self.new }
+        ensures noted { Notes (λ y. (e : ℕ) × Entry entries.now e × (y ≡ node e true)) 0 0 self.old self.new result }
+    {
+        let mut new = false;
+        for &e in entries {
+            new |= self.reach(node(e as usize, true), 0, 0);
+        }
+        new
     }
-}
 
-/// Where the node `x` leads, in `d` steps.
-fn spread(
-    flags: &[u32],
-    targets: &[u32],
-    further: &[u32],
-    known: &[u32],
-    dist: &mut [u16],
-    from: &mut [u16],
-    x: usize,
-    d: usize,
-) -> bool
-    requires { Lent flags.now dist.old from.old × Aims flags.now targets.now further.now × (x < 65536) × (d < 65535) }
-    ensures { (entries : List ℕ) → Spreads (StepTo (program_of flags.now targets.now further.now entries) (Table (marks_of known.now)) x) x d dist.old from.old dist.new from.new result }
-{
-    let p = x / 2;
-    let s = x % 2 == 1;
-    let to_clean = leaves(flags, p, s, false);
-    let clean = lead_on_if(
-        flags, targets, further, known, dist, from, to_clean, p, false, x, d,
-    );
-    let to_dirty = leaves(flags, p, s, true);
-    let dirty = lead_on_if(
-        flags, targets, further, known, dist, from, to_dirty, p, true, x, d,
-    );
-    either(clean, dirty)
-}
-
-/// Takes up the node `x`, if it is of layer `d`.
-fn spread_at(
-    flags: &[u32],
-    targets: &[u32],
-    further: &[u32],
-    known: &[u32],
-    dist: &mut [u16],
-    from: &mut [u16],
-    x: usize,
-    d: usize,
-) -> bool
-    requires { Lent flags.now dist.old from.old × Aims flags.now targets.now further.now × (x < length dist.old) × (d < 65534) }
-    ensures { (entries : List ℕ) → TakesUp (StepTo (program_of flags.now targets.now further.now entries) (Table (marks_of known.now)) x) x d dist.old from.old dist.new from.new result }
-{
-    if dist[x] as usize == d {
-        spread(flags, targets, further, known, dist, from, x, d + 1)
-    } else {
-        false
+    /// Reaches the entries, and takes up layer after layer.
+    fn walk(&mut self, program: Coded, known: &[u32])
+        requires none { (y : ℕ) → dst self.old.dist.now y < far → ⊥ }
+        requires lent { Lent program.flags.now self.old.dist.now self.old.from.now × Inside program.flags.now program.targets.now program.further.now program.entries.now }
+        ensures same { SameLists self.old self.new }
+        ensures measured { Measured (StartAt (coded program.entry program.entry.entries.now)) (StepTo (coded program.entry program.entry.entries.now) (Table (marks_of known.now))) self.new.dist.now self.new.from.now }
+    {
+        let mut more = self.begin(program.entries);
+        let mut d = 0;
+        // No `for`: it ends with the first layer that is empty, and not at a number.
+        while more {
+            more = self.layer(program, known, d);
+            d += 1;
+        }
     }
-}
-
-/// Takes up the nodes of layer `d`. Whether one is new.
-fn layer(
-    flags: &[u32],
-    targets: &[u32],
-    further: &[u32],
-    known: &[u32],
-    dist: &mut [u16],
-    from: &mut [u16],
-    d: usize,
-) -> bool
-    requires { Lent flags.now dist.old from.old × Aims flags.now targets.now further.now × (d < reached_in dist.old) }
-    ensures { (entries : List ℕ) → Passes (StartAt (program_of flags.now targets.now further.now entries)) (StepTo (program_of flags.now targets.now further.now entries) (Table (marks_of known.now))) d dist.old from.old dist.new from.new result }
-{
-    let mut new = false;
-    let mut x = 0;
-    while x < dist.len() {
-        let more = spread_at(flags, targets, further, known, dist, from, x, d);
-        new = either(new, more);
-        x += 1;
-    }
-    new
-}
-
-/// Nothing is reached.
-fn clear(dist: &mut [u16])
-    ensures { (y : ℕ) → dst dist.new y < far → ⊥ }
-{
-    let mut i = 0;
-    while i < dist.len() {
-        dist[i] = FAR;
-        i += 1;
-    }
-}
-
-/// Reaches the entries, dirty. Whether there is one.
-fn begin(entries: &[u32], dist: &mut [u16], from: &mut [u16]) -> bool
-    requires { (length from.old ≡ length dist.old) × ((i : ℕ) → i < length entries.now → 2 * get_or entries.now i 0 + 1 < length dist.old) }
-    ensures { Spreads (λ y. (e : ℕ) × Entry entries.now e × (y ≡ node e true)) 0 0 dist.old from.old dist.new from.new result }
-{
-    let mut new = false;
-    let mut i = 0;
-    while i < entries.len() {
-        let more = reach(dist, from, 2 * (entries[i] as usize) + 1, 0, 0);
-        new = either(new, more);
-        i += 1;
-    }
-    new
 }
 
 /// Measures every node.
-pub fn search(
-    flags: &[u32],
-    targets: &[u32],
-    further: &[u32],
-    entries: &[u32],
-    known: &[u32],
-    dist: &mut [u16],
-    from: &mut [u16],
-)
-    requires { Lent flags.now dist.old from.old × Inside flags.now targets.now further.now entries.now }
-    ensures { Measured (StartAt (program_of flags.now targets.now further.now entries.now)) (StepTo (program_of flags.now targets.now further.now entries.now) (Table (marks_of known.now))) dist.new from.new }
+/// C lends the lists one by one, and they are as long as it likes.
+pub fn search(program: Coded, known: &[u32], dist: &mut [u16], from: &mut [u16])
+    requires { Lent program.flags.now dist.old from.old × Inside program.flags.now program.targets.now program.further.now program.entries.now }
+    ensures { Measured (StartAt (coded program.entry program.entry.entries.now)) (StepTo (coded program.entry program.entry.entries.now) (Table (marks_of known.now))) dist.new from.new }
 {
-    clear(dist);
-    let mut more = begin(entries, dist, from);
-    let mut d = 0;
-    while more {
-        more = layer(flags, targets, further, known, dist, from, d);
-        d += 1;
-    }
+    dist.fill(FAR);
+    let mut reached = Reached { dist, from };
+    reached.walk(program, known);
 }

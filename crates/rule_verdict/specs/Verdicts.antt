@@ -1,10 +1,12 @@
 -- What `judge` says of a program in numbers, and what it leaves in what it is lent.
-use Rattle.std.specs.Prelude.{◌≡◌, Bool, true, List, ◌⊎◌, ℕ, suc, ◌+◌, ◌*◌, ◌/◌, ◌≤◌, ◌<◌, length, get_or, drop}
-use Rattle.word.specs.Refusal.{TOO_MANY_WORDS, NO_PLACE, NO_ROOM}
+use Rattle.std.specs.Prelude.{◌≡◌, Bool, true, List, ℕ, suc, ◌+◌, ◌*◌, ◌/◌, ◌≤◌, ◌<◌, length, get_or, drop, Result, Ok, Err}
+use Rattle.word.specs.Refusal.{TOO_MANY_WORDS, NO_PLACE, NO_ROOM, refusing}
+use Rattle.word.specs.declared.refusal.Refusal.{Refusal}
 use Rattle.rule_runs.specs.Runs.{Program, Run, Broken, Opened}
 use Rattle.rule_runs.specs.Summaries.{Summary, Flow, Ever}
 use Rattle.rule_places.specs.Coded.{Inside, program_of}
-use Rattle.rule_verdict.specs.declared.Judged.{Judged}
+use Rattle.rule_verdict.specs.declared.Verdict.{Verdict}
+use Rattle.rule_verdict.specs.declared.Verdict.TheVariants as V
 
 -- f 0 to f k are the places of a way from an entry, "each a step of the final walk, a call that came back being one step", and it arrives in a state
 pub data Along (P : Program) (S : Summary) (f : ℕ → ℕ) : ℕ → Bool → Type 0 where
@@ -46,10 +48,31 @@ VIOLATED = 1
 abbrev pub UNDECIDED : ℕ
 UNDECIDED = 2
 
-abbrev pub Answers : Program → List ℕ → List ℕ → Judged → Type 0
-Answers P way last r =
-    ((r.verdict ≡ VIOLATED) × Violated P way last r.number)
-    ⊎ (((r.verdict ≡ UNDECIDED) × Undecided P r.number × (last ≡ way)) ⊎ ((r.verdict ≡ HOLDS) × Holds P × (r.number ≡ 0) × (last ≡ way)))
+abbrev pub number : Verdict → ℕ
+number V.Holds = HOLDS
+number (V.Violated n) = VIOLATED
+number (V.Undecided q) = UNDECIDED
+
+-- what is given with one: the number of the places of the way, or the first open place
+abbrev pub value : Verdict → ℕ
+value V.Holds = 0
+value (V.Violated n) = n
+value (V.Undecided q) = q
+
+-- the same of an answer, where a refusal has neither
+abbrev pub verdict_of : Result Verdict Refusal → ℕ
+verdict_of (Ok v) = number v
+verdict_of (Err e) = 0
+
+abbrev pub value_of : Result Verdict Refusal → ℕ
+value_of (Ok v) = value v
+value_of (Err e) = 0
+
+-- what a verdict says: a way is written, or nothing is
+pub data Answers (P : Program) (way last : List ℕ) : Verdict → Type 0 where
+  by_way : {places : ℕ} → Violated P way last places → Answers P way last (V.Violated places)
+  by_place : {q : ℕ} → Undecided P q → last ≡ way → Answers P way last (V.Undecided q)
+  by_none : Holds P → last ≡ way → Answers P way last V.Holds
 
 -- what always suffices: four marks in the table for each place, so a number for eight of them, and two numbers for each place and two
 pub record Room (flags known dist from way : List ℕ) : Type 0 where
@@ -58,13 +81,10 @@ pub record Room (flags known dist from way : List ℕ) : Type 0 where
   pub from_room : 2 * length flags + 2 ≤ length from
   pub way_room : 2 * length flags + 2 ≤ length way
 
-abbrev pub refused_by : ℕ → Judged
-refused_by n = record { refusal = n; verdict = 0; number = 0 }
-
 -- a refusal is its number alone, and changes nothing
-abbrev pub Refuses : ℕ → List ℕ → List ℕ → List ℕ → List ℕ → List ℕ → List ℕ → List ℕ → List ℕ → Judged → Type 0
+abbrev pub Refuses : ℕ → List ℕ → List ℕ → List ℕ → List ℕ → List ℕ → List ℕ → List ℕ → List ℕ → Result Verdict Refusal → Type 0
 Refuses n known dist from way known' dist' from' way' r =
-    (r ≡ refused_by n) × (known' ≡ known) × (dist' ≡ dist) × (from' ≡ from) × (way' ≡ way)
+    (r ≡ refusing n) × (known' ≡ known) × (dist' ≡ dist) × (from' ≡ from) × (way' ≡ way)
 
 -- nothing is changed behind the room that suffices; in it anything may stand
 pub record Behind (flags known dist from known' dist' from' : List ℕ) : Type 0 where
@@ -74,11 +94,11 @@ pub record Behind (flags known dist from known' dist' from' : List ℕ) : Type 0
 
 -- THE CONTRACT: "13 for a place outside, then 10 where a lent slice is too short, with nothing changed"; before both, 8 for more than 4,096 places.
 -- Else the rule is judged, and a way fits into what always suffices
-pub record Rules (flags targets further entries known dist from way known' dist' from' way' : List ℕ) (r : Judged) : Type 0 where
+pub record Rules (flags targets further entries known dist from way known' dist' from' way' : List ℕ) (r : Result Verdict Refusal) : Type 0 where
   pub many : 4096 < length flags → Refuses TOO_MANY_WORDS known dist from way known' dist' from' way' r
   pub outside : length flags ≤ 4096 → (Inside flags targets further entries → ⊥) → Refuses NO_PLACE known dist from way known' dist' from' way' r
   pub short : length flags ≤ 4096 → Inside flags targets further entries → (Room flags known dist from way → ⊥)
       → Refuses NO_ROOM known dist from way known' dist' from' way' r
   pub judged : length flags ≤ 4096 → Inside flags targets further entries → Room flags known dist from way
-      → (r.refusal ≡ 0) × (r.number ≤ 2 * length flags + 2) × Answers (program_of flags targets further entries) way way' r
+      → (v : Verdict) × (r ≡ Ok v) × (value v ≤ 2 * length flags + 2) × Answers (program_of flags targets further entries) way way' v
       × Behind flags known dist from known' dist' from'

@@ -3,91 +3,114 @@
 #![tactic(auto)]
 
 ghost use Rattle.std.specs.Prelude.{◌≡◌, true, ◌↔◌, ℕ, ◌+◌, ◌*◌, ◌≤◌, ◌<◌, length};
-ghost use Rattle.walk_marks.specs.Marks.{marks_of};
-ghost use Rattle.rule_runs.specs.Summaries.{Settled};
-ghost use Rattle.rule_places.specs.Coded.{Inside, program_of};
-ghost use Rattle.rule_returns.specs.Table.{Table};
-ghost use Rattle.rule_search.specs.Search.{StepTo, StartAt, Measured, Lent};
-ghost use Rattle.rule_verdict.specs.Parts.{Nearest, OpenAt, FirstOpen, back, Traced};
-ghost use Rattle.rule_verdict.specs.Verdicts.{Answers, Room, refused_by, Rules};
+ghost use Rattle.rule_places.specs.Coded.{Inside, coded};
+ghost use Rattle.rule_search.specs.Search.{Lent};
+ghost use Rattle.rule_verdict.specs.Parts.{steps_to, Nearest, OpenAt, FirstOpen, back, Traced};
+ghost use Rattle.rule_verdict.specs.Verdicts.{number, value, Answers, Rules};
 
-use rule_places::{COMMITS, OPENS, has, inside};
-use rule_returns::{either, settle};
+use rule_places::{COMMITS, Coded, OPENS};
+use rule_returns::settle;
 use rule_search::{FAR, search};
-use word::refusal::{NO_PLACE, NO_ROOM, TOO_MANY_WORDS};
+use word::refusal::Refusal;
 
-/// The rule holds.
-pub const HOLDS: u8 = 0;
-
-/// Some run breaks it.
-pub const VIOLATED: u8 = 1;
-
-/// None does, but some run reaches an open place.
-pub const UNDECIDED: u8 = 2;
-
-/// The nearest commit so far, and how far it is.
-#[derive(Clone, Copy)]
-pub struct Near {
-    pub place: usize,
-    pub steps: usize,
+/// The verdict on a program.
+#[derive(Clone, Copy, PartialEq, Eq)]
+pub enum Verdict {
+    /// The rule holds.
+    Holds,
+    /// Some run breaks it, and a shortest way to its commit has so many places.
+    Violated(usize),
+    /// None does, but some run reaches an open place, of which this is the first.
+    Undecided(usize),
 }
 
-/// One place more.
-fn nearer(flags: &[u32], dist: &[u16], p: usize, best: Near) -> Near
-    requires { (2 * p + 1 < length dist.now) × (p < 4096) × Nearest flags.now dist.now p best }
-    ensures { Nearest flags.now dist.now (p + 1) result }
-{
-    if has(flags, p, COMMITS) {
-        let d = dist[2 * p + 1] as usize;
-        if d < best.steps {
-            return Near { place: p, steps: d };
+impl Verdict {
+    /// The number of the verdict, as C is given it.
+    pub fn number(self) -> u8
+        ensures { result ≡ number self }
+    {
+        match self {
+            Verdict::Holds => 0,
+            Verdict::Violated(_) => 1,
+            Verdict::Undecided(_) => 2,
         }
+    }
+
+    /// The number of places or the place that is given with it, or 0.
+    pub fn value(self) -> usize
+        ensures { result ≡ value self }
+    {
+        match self {
+            Verdict::Holds => 0,
+            Verdict::Violated(places) => places,
+            Verdict::Undecided(place) => place,
+        }
+    }
+}
+
+/// A commit, and how far it is.
+#[derive(Clone, Copy)]
+struct Near {
+    place: usize,
+    steps: u16,
+}
+
+/// How far a commit is, if one is reached.
+fn steps_to(best: Option<Near>) -> u16
+    ensures { result ≡ steps_to best }
+{
+    match best {
+        Some(near) => near.steps,
+        None => FAR,
+    }
+}
+
+/// The nearest commit, with one place more.
+fn nearer(program: Coded, dist: &[u16], p: usize, best: Option<Near>) -> Option<Near>
+    requires { (2 * p + 1 < length dist.now) × (p < 4096) × Nearest program.flags.now dist.now p best }
+    ensures { Nearest program.entry.flags.now dist.now (p + 1) result }
+{
+    let steps = dist[2 * p + 1];
+    let least = steps_to(best);
+    if program.has(p, COMMITS) && steps < least {
+        return Some(Near { place: p, steps });
     }
     best
 }
 
 /// The nearest commit that is reached dirty.
-fn nearest(flags: &[u32], dist: &[u16]) -> Near
-    requires { (length flags.now ≤ 4096) × (length dist.now ≡ 2 * length flags.now + 2) }
-    ensures { Nearest flags.now dist.now (length flags.now) result }
+fn nearest(program: Coded, dist: &[u16]) -> Option<Near>
+    requires { (length program.flags.now ≤ 4096) × (length dist.now ≡ 2 * length program.flags.now + 2) }
+    ensures { Nearest program.entry.flags.now dist.now (length program.entry.flags.now) result }
 {
-    let mut best = Near {
-        place: 0,
-        steps: 65535,
-    };
-    let mut p = 0;
-    while p < flags.len() {
-        best = nearer(flags, dist, p, best);
-        p += 1;
+    let mut best = None;
+    // By number: a place is its number.
+    for p in 0..program.flags.len() {
+        best = nearer(program, dist, p, best);
     }
     best
 }
 
 /// Whether the place `p` is open and reached.
-fn open_at(flags: &[u32], dist: &[u16], p: usize) -> bool
+fn open_at(program: Coded, dist: &[u16], p: usize) -> bool
     requires { (2 * p + 1 < length dist.now) × (p < 4096) }
-    ensures { (result ≡ true) ↔ OpenAt flags.now dist.now p }
+    ensures { (result ≡ true) ↔ OpenAt program.entry.flags.now dist.now p }
 {
-    if has(flags, p, OPENS) {
-        either(dist[2 * p] < FAR, dist[2 * p + 1] < FAR)
-    } else {
-        false
-    }
+    program.has(p, OPENS) && (dist[2 * p] < FAR || dist[2 * p + 1] < FAR)
 }
 
-/// The first place that is open and reached, or as many as there are.
-fn first_open(flags: &[u32], dist: &[u16]) -> usize
-    requires { (length flags.now ≤ 4096) × (length dist.now ≡ 2 * length flags.now + 2) }
-    ensures { FirstOpen flags.now dist.now result }
+/// The first place that is open and reached.
+fn first_open(program: Coded, dist: &[u16]) -> Option<usize>
+    requires { (length program.flags.now ≤ 4096) × (length dist.now ≡ 2 * length program.flags.now + 2) }
+    ensures { FirstOpen program.entry.flags.now dist.now result }
 {
-    let mut p = 0;
-    while p < flags.len() {
-        if open_at(flags, dist, p) {
-            return p;
+    // By number: a place is one, and none before the first is open, as `FirstOpen` says it.
+    for p in 0..program.flags.len() {
+        if open_at(program, dist, p) {
+            return Some(p);
         }
-        p += 1;
     }
-    p
+    None
 }
 
 /// Writes the way to the node `x`, which is `d` steps away.
@@ -96,118 +119,68 @@ fn trace(from: &[u16], way: &mut [u32], x: usize, d: usize)
     ensures { Traced from.now x d way.old way.new }
 {
     let mut y = x;
-    let mut i = d;
-    while 0 < i {
+    // Not `0..=d`: from its end it does not say that the last number is 0, and the proof did not close.
+    for i in (0..d + 1).rev() {
         way[i] = (y / 2) as u32;
         y = from[y] as usize;
-        i -= 1;
-    }
-    way[0] = (y / 2) as u32;
-}
-
-/// The answer: the number of a refusal, or a verdict with the number of places of the way or the first open place.
-#[derive(Clone, Copy)]
-pub struct Judged {
-    pub refusal: u8,
-    pub verdict: u8,
-    pub number: usize,
-}
-
-fn refuse(refusal: u8) -> Judged
-    ensures { result ≡ refused_by refusal }
-{
-    Judged {
-        refusal,
-        verdict: 0,
-        number: 0,
     }
 }
 
 /// The verdict, with as much room as there are nodes.
-fn verdict(
-    flags: &[u32],
-    targets: &[u32],
-    further: &[u32],
-    entries: &[u32],
+fn decide(
+    program: Coded,
     known: &mut [u32],
     dist: &mut [u16],
     from: &mut [u16],
     way: &mut [u32],
-) -> Judged
-    requires lent { Lent flags.now dist.old from.old × Inside flags.now targets.now further.now entries.now }
-    requires flags_bound { (4 * length flags.now ≤ 32 * length known.old) × (2 * length flags.now + 2 ≤ length way.old) }
-    ensures { (result.refusal ≡ 0) × (result.number ≤ 2 * length flags.now + 2) × Answers (program_of flags.now targets.now further.now entries.now) way.old way.new result }
+) -> Verdict
+    requires lent { Lent program.flags.now dist.old from.old × Inside program.flags.now program.targets.now program.further.now program.entries.now }
+    requires flags_bound { (4 * length program.flags.now ≤ 32 * length known.old) × (2 * length program.flags.now + 2 ≤ length way.old) }
+    ensures { (value result ≤ 2 * length program.entry.flags.now + 2) × Answers (coded program.entry program.entry.entries.now) way.old way.new result }
 {
-    settle(flags, targets, further, known);
-    search(flags, targets, further, entries, known, dist, from);
-    let near = nearest(flags, dist);
-    let steps = near.steps;
-    if steps < 65535 {
-        trace(from, way, 2 * near.place + 1, steps);
-        return Judged {
-            refusal: 0,
-            verdict: VIOLATED,
-            number: steps + 1,
-        };
-    }
-    let open = first_open(flags, dist);
-    if open < flags.len() {
-        return Judged {
-            refusal: 0,
-            verdict: UNDECIDED,
-            number: open,
-        };
-    }
-    Judged {
-        refusal: 0,
-        verdict: HOLDS,
-        number: 0,
+    settle(program, known);
+    search(program, known, dist, from);
+    match nearest(program, dist) {
+        Some(near) => {
+            let steps = near.steps as usize;
+            trace(from, way, 2 * near.place + 1, steps);
+            Verdict::Violated(steps + 1)
+        }
+        None => match first_open(program, dist) {
+            Some(place) => Verdict::Undecided(place),
+            None => Verdict::Holds,
+        },
     }
 }
 
-/// Judges the program. Where the rule is violated, the way to the commit stands at the start of `way`, and the answer's number is that of its places.
-/// `known`, `dist` and `from` are room to work in: `places / 8` numbers, rounded up, and twice `2 * places + 2`; `way` has room for as many.
+/// Judges the program. Where the rule is violated, the way to the commit stands at the start of `way`. `known`, `dist` and `from` are room to work
+/// in: `places / 8` numbers, rounded up, and twice `2 * places + 2`; `way` has room for as many.
 pub fn judge(
-    flags: &[u32],
-    targets: &[u32],
-    further: &[u32],
-    entries: &[u32],
+    program: Coded,
     known: &mut [u32],
     dist: &mut [u16],
     from: &mut [u16],
     way: &mut [u32],
-) -> Judged
-    ensures { Rules flags.now targets.now further.now entries.now known.old dist.old from.old way.old known.new dist.new from.new way.new result }
+) -> Result<Verdict, Refusal>
+    ensures { Rules program.entry.flags.now program.entry.targets.now program.entry.further.now program.entry.entries.now known.old dist.old from.old way.old known.new dist.new from.new way.new result }
 {
-    let places = flags.len();
+    let places = program.flags.len();
     if 4096 < places {
-        return refuse(TOO_MANY_WORDS);
+        return Err(Refusal::TooManyWords);
     }
-    if !inside(flags, targets, further, entries) {
-        return refuse(NO_PLACE);
+    if !program.inside() {
+        return Err(Refusal::NoPlace);
     }
-    let words = (places + 7) / 8;
+    let words = places.div_ceil(8);
     let nodes = 2 * places + 2;
-    if known.len() < words {
-        return refuse(NO_ROOM);
+    if known.len() < words || dist.len() < nodes || from.len() < nodes || way.len() < nodes {
+        return Err(Refusal::NoRoom);
     }
-    if dist.len() < nodes {
-        return refuse(NO_ROOM);
-    }
-    if from.len() < nodes {
-        return refuse(NO_ROOM);
-    }
-    if way.len() < nodes {
-        return refuse(NO_ROOM);
-    }
-    verdict(
-        flags,
-        targets,
-        further,
-        entries,
+    Ok(decide(
+        program,
         &mut known[..words],
         &mut dist[..nodes],
         &mut from[..nodes],
         way,
-    )
+    ))
 }

@@ -1,5 +1,5 @@
 -- What the checks say of a section: it is accepted exactly if it is what 01 and 02 describe. Assumes nothing.
-use mathlib.Core.Path.{◌≡◌, refl, sym, ap}
+use mathlib.Core.Path.{◌≡◌, refl, sym, ap, ◌∙◌}
 use mathlib.Core.Bool.{Bool, true, false, not}
 use mathlib.Core.List.{List}
 use mathlib.Core.Logic.{◌↔◌, ◌⊎◌, inl, inr, ⊎_elim}
@@ -11,11 +11,16 @@ use lib.ListN.{length}
 use Rattle.word.specs.Choice.{pick, tested, by_test, parts}
 use Rattle.section.specs.Ranges.{in_order, rules_hold}
 use Rattle.section.specs.Section.{marked_of, half_at, version_of, is_known, base_of, range_count, start_of, range_at, ranges_of, count_of}
-use Rattle.section.specs.Section.{refusal_of, opened_of}
+use Rattle.section.specs.Section.{refusal_of, opened_of, opened_in, opening_of, section_of}
+use Rattle.section.specs.declared.Opened.{Opened}
+use Rattle.std.specs.Prelude.{Result, Ok, Err}
+use Rattle.word.specs.Refusal.{number, numbered, refused_with, refusing}
+use Rattle.word.specs.declared.refusal.Refusal.{Refusal}
 use Rattle.section.specs.Accepted.{Accepted}
 use Rattle.section.proofs.Firsts.{so_many}
 use Rattle.section.proofs.Ruled.{rules_exactly}
 use Rattle.section.proofs.Checks.{none}
+use Rattle.section.proofs.Refused.{InTable, answers_with}
 
 -- what stands before the words
 module _ (s : List ℕ) where
@@ -110,28 +115,78 @@ small_refusal s =
     small false n ok h = h
 
 pub opens : (s : List ℕ) → refusal_of s ≡ 0
-    → opened_of s ≡ record { refusal = 0; version = version_of s; base = base_of s; count = count_of s; ranges = range_count s; start = start_of s }
+    → opened_of s ≡ Ok (record { version = version_of s; base = base_of s; count = count_of s; ranges = range_count s; start = start_of s })
 opens s ok = unfold opened_of in simp (eq-eqb (refusal_of s) 0 ok)
 
-pub refuses : (s : List ℕ) → (refusal_of s ≡ 0 → ⊥)
-    → opened_of s ≡ record { refusal = refusal_of s; version = 0; base = 0; count = 0; ranges = 0; start = 0 }
+pub opening : (s : List ℕ) → refusal_of s ≡ 0
+    → opening_of s ≡ record { version = version_of s; base = base_of s; count = count_of s; ranges = range_count s; start = start_of s }
+opening s ok = ap opened_in (opens s ok)
+
+pub refuses : (s : List ℕ) → (refusal_of s ≡ 0 → ⊥) → opened_of s ≡ refusing (refusal_of s)
 refuses s bad = unfold opened_of in simp (ne_eqb (refusal_of s) 0 bad)
 
+pub holds_none : (s : List ℕ) → (refusal_of s ≡ 0 → ⊥)
+    → opening_of s ≡ record { version = 0; base = 0; count = 0; ranges = 0; start = 0 }
+holds_none s bad = ap opened_in (refuses s bad)
+
+-- a refusal's number is one of the table
+pub refusal_known : (s : List ℕ) → InTable (refusal_of s)
+unfolding refusal_of
+refusal_known s =
+    told (ltb (length s) 9) 7 refl
+    (told (not (marked_of s)) 5 refl
+    (told (not (is_known (version_of s))) 6 refl
+    (told (ltb (length s) (start_of s)) 7 refl
+    (told (not (eqb ((length s - start_of s) % 4) 0)) 7 refl
+    (told (ltb 4096 (count_of s)) 8 refl
+    (told (not (rules_hold (count_of s) (ranges_of s (range_count s)))) 11 refl
+    (told (not (eqb (base_of s % 4) 0)) 9 refl
+    (told (ltb (2 ^ 32) (base_of s + 4 * count_of s)) 9 refl (inl refl)))))))))
+  where
+    told : (b : Bool) (n : ℕ) {rest : ℕ} → number (numbered n) ≡ n → InTable rest → InTable (pick b n rest)
+    told true n is other = inr is
+    told false n is other = other
+
 -- `open` accepts exactly if `refusal_of` is 0
-pub same_refusal : (s : List ℕ) → (opened_of s).refusal ≡ refusal_of s
-same_refusal s =
-    by_test (eqb (refusal_of s) 0)
-    (λ e. let ok = eqb-true (refusal_of s) 0 e in rw (opens s ok) (sym ok))
-    (λ e. rw (refuses s (eqb-false (refusal_of s) 0 e)))
+pub same_refusal : (s : List ℕ) → refused_with (opened_of s) ≡ refusal_of s
+same_refusal s = unfold opened_of in answers_with _ (refusal_of s) (refusal_known s)
+
+pub is_section : (s : List ℕ) → refusal_of s ≡ 0 → section_of s ≡ Ok s
+is_section s ok = simp (eq-eqb (refusal_of s) 0 ok)
+
+-- what a section that passes its checks is, and one that does not
+abbrev section_in : List ℕ → Result (List ℕ) Refusal → List ℕ
+section_in s (Ok bytes) = bytes
+section_in s (Err r) = s
+
+module _ (s : List ℕ) where
+  pub same_section : {bytes : List ℕ} → Ok bytes ≡ section_of s → bytes ≡ s
+  same_section is =
+      ap (section_in s) is
+      ∙ by_test (eqb (refusal_of s) 0) (λ e. simp e) (λ e. simp e)
+
+  pub section_passed : {bytes : List ℕ} → Ok bytes ≡ section_of s → refusal_of s ≡ 0
+  section_passed is = sym (answers_with s (refusal_of s) (refusal_known s)) ∙ sym (ap refused_with is)
+
+  pub section_refused : {r : Refusal} → Err r ≡ section_of s → number r ≡ refused_with (opened_of s)
+  section_refused is = ap refused_with is ∙ answers_with s (refusal_of s) (refusal_known s) ∙ sym (same_refusal s)
+
+-- what an accepted section is opened to
+module _ (s : List ℕ) {o : Opened} (is : opened_of s ≡ Ok o) where
+  pub none_refused : refusal_of s ≡ 0
+  none_refused = sym (same_refusal s) ∙ ap refused_with is
+
+  pub is_opening : o ≡ opening_of s
+  is_opening = sym (ap opened_in is)
 
 -- what an opened section holds, refused or not
 pub record Opens (s : List ℕ) : Type 0 where
-  pub version : (opened_of s).version ≤ 2
-  pub long : (opened_of s).start + 4 * (opened_of s).count ≤ length s
-  pub few : (opened_of s).count ≤ 4096
-  pub below : (opened_of s).base + 4 * (opened_of s).count ≤ 2 ^ 32
-  pub there : 8 * (opened_of s).ranges ≤ length s - 11
-  pub ordered : in_order (opened_of s).count 0 (ranges_of s (opened_of s).ranges) ≡ true
+  pub version : (opening_of s).version ≤ 2
+  pub long : (opening_of s).start + 4 * (opening_of s).count ≤ length s
+  pub few : (opening_of s).count ≤ 4096
+  pub below : (opening_of s).base + 4 * (opening_of s).count ≤ 2 ^ 32
+  pub there : 8 * (opening_of s).ranges ≤ length s - 11
+  pub ordered : in_order (opening_of s).count 0 (ranges_of s (opening_of s).ranges) ≡ true
 
 pub opened : (s : List ℕ) → Opens s
 opened s =
@@ -139,7 +194,7 @@ opened s =
     (λ e.
     let ok = eqb-true (refusal_of s) 0 e in
     let all = accepted s ok in
-    let is = opens s ok in
+    let is = opening s ok in
     let rules = (rules_exactly (count_of s) (ranges_of s (range_count s))).1 all.ruled in
     record {
       version = rw is (⊎_elim (λ one. omega (arith, one)) (λ two. omega (arith, two)) all.version);
@@ -150,7 +205,7 @@ opened s =
       ordered = rw is (parts (leb (length (ranges_of s (range_count s))) 64) (in_order (count_of s) 0 (ranges_of s (range_count s))) rules).1;
     })
     (λ e.
-    let is = refuses s (eqb-false (refusal_of s) 0 e) in
+    let is = holds_none s (eqb-false (refusal_of s) 0 e) in
     record {
       version = rw is (omega arith);
       long = rw is (omega arith);

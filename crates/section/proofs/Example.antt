@@ -2,6 +2,7 @@
 use mathlib.Core.Path.{◌≡◌, refl}
 use mathlib.Core.List.{List, [], ◌∷◌, ◌++◌, map}
 use Prim.Native.Nat.{ℕ}
+use Rattle.std.specs.Prelude.{Ok}
 use lib.ListN.{replicate}
 use Rattle.section.specs.Section.{refusal_of, opened_of, places_of}
 use Rattle.section.specs.declared.Here.TheVariants.{Word, Data}
@@ -11,7 +12,7 @@ listed =
     0x52 ∷ 0x53 ∷ 0x58 ∷ 0x01 ∷ 0x00 ∷ 0x00 ∷ 0x80 ∷ 0x00 ∷ 0x00 ∷ 0x10 ∷ 0x40 ∷ 0x2d ∷ 0xe9 ∷ 0x0e ∷ 0xf0 ∷ 0xa0 ∷ 0xe1
     ∷ 0x4f ∷ 0xf0 ∷ 0x7f ∷ 0xf5 ∷ 0x5f ∷ 0xf0 ∷ 0x7f ∷ 0xf5 ∷ 0xfe ∷ 0xff ∷ 0xff ∷ 0x0a ∷ 0x00 ∷ 0x00 ∷ 0x00 ∷ 0xef ∷ []
 
-opens : opened_of listed ≡ record { refusal = 0; version = 1; base = 0x8000; count = 6; ranges = 0; start = 9 }
+opens : opened_of listed ≡ Ok (record { version = 1; base = 0x8000; count = 6; ranges = 0; start = 9 })
 opens = unfold refusal_of opened_of in refl
 
 holds :

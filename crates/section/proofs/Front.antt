@@ -13,19 +13,19 @@ use Rattle.word.specs.Bytes.{word_at}
 use Rattle.word.specs.Choice.{by_test}
 use Rattle.section.specs.Ranges.{rules_hold, is_data}
 use Rattle.section.specs.Section.{marked_of, half_at, version_of, base_of, range_count, start_of, range_at, ranges_of, count_of}
-use Rattle.section.specs.Section.{refusal_of, opened_of, here_at, places_of, here_of}
+use Rattle.section.specs.Section.{refusal_of, opened_of, opened_in, opening_of, here_at, places_of, here_of}
 use Rattle.section.specs.Replaced.{with_word}
 use Rattle.section.specs.declared.Opened.{Opened}
-use Rattle.section.proofs.Accepted.{start_least, start_two, opens, refuses}
+use Rattle.section.proofs.Accepted.{start_least, start_two, opening, holds_none}
 use Rattle.section.proofs.Firsts.{same_firsts}
 use Rattle.section.proofs.Places.{how_many_lem, before_end, at_end}
 
 -- a section that has a place is accepted
-pub is_accepted : (s : List ℕ) (place : ℕ) → place < (opened_of s).count → refusal_of s ≡ 0
+pub is_accepted : (s : List ℕ) (place : ℕ) → place < (opening_of s).count → refusal_of s ≡ 0
 is_accepted s place inside =
     by_test (eqb (refusal_of s) 0)
     (λ e. eqb-true (refusal_of s) 0 e)
-    (λ e. absurd (let z : ⊥ = omega (arith, ap (λ (o : Opened). o.count) (refuses s (eqb-false (refusal_of s) 0 e))) in z))
+    (λ e. absurd (let z : ⊥ = omega (arith, ap (λ (o : Opened). o.count) (holds_none s (eqb-false (refusal_of s) 0 e))) in z))
 
 module _ (s t : List ℕ) (long : length s ≡ length t) (front : (i : ℕ) → i < start_of s → get_or s i 0 ≡ get_or t i 0) where
   nine : (i : ℕ) → i < 9 → get_or s i 0 ≡ get_or t i 0
@@ -91,8 +91,11 @@ module _ (s t : List ℕ) (long : length s ≡ length t) (front : (i : ℕ) → 
   pub same_opened : opened_of s ≡ opened_of t
   same_opened = unfold opened_of in cc (same_refusal, same_version, same_base, same_words, same_count, same_start)
 
+  pub same_opening : opening_of s ≡ opening_of t
+  same_opening = ap opened_in same_opened
+
   as_many : length (places_of s) ≡ length (places_of t)
-  as_many = how_many_lem s ∙ ap (λ (o : Opened). o.count) same_opened ∙ sym (how_many_lem t)
+  as_many = how_many_lem s ∙ ap (λ (o : Opened). o.count) same_opening ∙ sym (how_many_lem t)
 
   same_but_word : (o : Opened) (place : ℕ) → ranges_of s o.ranges ≡ ranges_of t o.ranges
       → here_at t o place ≡ with_word (word_at t (o.start + 4 * place)) (here_at s o place)
@@ -104,12 +107,12 @@ module _ (s t : List ℕ) (long : length s ≡ length t) (front : (i : ℕ) → 
       by_test (ltb place (length (places_of s)))
       (λ e.
       let h = ltb-true place (length (places_of s)) e in
-      let is = opens s (is_accepted s place (omega (arith, how_many_lem s))) in
+      let is = opening s (is_accepted s place (omega (arith, how_many_lem s))) in
       rw (before_end s h)
       (before_end t (omega (arith, as_many))
-      ∙ ap (λ (o : Opened). here_at t o place) (sym same_opened)
-      ∙ same_but_word (opened_of s) place (rw is same_ranges)
-      ∙ ap (λ (o : Opened). with_word (word_at t (o.start + 4 * place)) (here_at s (opened_of s) place)) is))
+      ∙ ap (λ (o : Opened). here_at t o place) (sym same_opening)
+      ∙ same_but_word (opening_of s) place (rw is same_ranges)
+      ∙ ap (λ (o : Opened). with_word (word_at t (o.start + 4 * place)) (here_at s (opening_of s) place)) is))
       (λ e.
       let h = ltb-false place (length (places_of s)) e in
       rw (at_end s h) (at_end t (omega (arith, as_many))))

@@ -12,10 +12,10 @@ use lib.Seq.{sets, sets-eq, length-sets, get_or-set_same, get_or-set_other}
 use Rattle.word.specs.Bytes.{word_at, bytes_of}
 use Rattle.word.specs.Choice.{by_test}
 use Rattle.section.specs.Section.{start_of}
-use Rattle.section.specs.Section.{refusal_of, opened_of, here_of}
+use Rattle.section.specs.Section.{refusal_of, opened_of, opening_of, here_of}
 use Rattle.section.specs.Replaced.{replaced_of, with_word}
 use Rattle.section.specs.declared.Opened.{Opened}
-use Rattle.section.proofs.Accepted.{accepted, opens}
+use Rattle.section.proofs.Accepted.{accepted, opening}
 use Rattle.section.proofs.Front.{is_accepted, same_opened, carries, keeps}
 
 -- four bytes make their word
@@ -49,25 +49,15 @@ sets_same (v ∷ vs) l i (suc k) h room =
     rw on (sets_same vs (set l i v) (suc i) k (omega arith) (rw (length-set l i v) (omega arith)))
 
 -- another word at a place of a section
-module _ (s : List ℕ) (place w : ℕ) (inside : place < (opened_of s).count) where
+module _ (s : List ℕ) (place w : ℕ) (inside : place < (opening_of s).count) where
   pub ok : refusal_of s ≡ 0
   ok = is_accepted s place inside
 
   pub room : start_of s + 4 * place + 4 ≤ length s
-  room = omega (arith, (accepted s ok).long, ap (λ (o : Opened). o.count) (opens s ok))
+  room = omega (arith, (accepted s ok).long, ap (λ (o : Opened). o.count) (opening s ok))
 
   stored : sets s (start_of s + 4 * place) (bytes_of w) ≡ replaced_of s place w
   stored = unfold replaced_of in sets-eq (bytes_of w) s (start_of s + 4 * place) room
-
-  -- as straight-line code stores it
-  pub stores : {n : ℕ} → n ≡ start_of s + 4 * place
-      → set (set (set (set s n (w % 0x100)) (n + 1) (w / 0x100 % 0x100)) (n + 2) (w / 0x1_0000 % 0x100)) (n + 3) (w / 0x100_0000 % 0x100)
-      ≡ replaced_of s place w
-  stores {n} is =
-      let one : n + 1 ≡ suc n = omega arith in
-      let two : n + 2 ≡ suc (suc n) = omega arith in
-      let three : n + 3 ≡ suc (suc (suc n)) = omega arith in
-      rw (one, two, three) (ap (λ (k : ℕ). sets s k (bytes_of w)) is ∙ stored)
 
   as_long : length s ≡ length (replaced_of s place w)
   as_long = rw (← stored) (sym (length-sets s (start_of s + 4 * place) (bytes_of w)))
@@ -94,8 +84,8 @@ module _ (s : List ℕ) (place w : ℕ) (inside : place < (opened_of s).count) w
       its_first : get_or (replaced_of s place w) (start_of s + 4 * place) 0 ≡ w % 256
       its_first = rw add-zero at (its_own 0 (omega arith))
 
-  pub start_is : (opened_of s).start ≡ start_of s
-  start_is = ap (λ (o : Opened). o.start) (opens s ok)
+  pub start_is : (opening_of s).start ≡ start_of s
+  start_is = ap (λ (o : Opened). o.start) (opening s ok)
 
   -- the other places hold what they held
   pub stays_elsewhere : (p : ℕ) → (p ≡ place → ⊥) → here_of (replaced_of s place w) p ≡ here_of s p

@@ -1,22 +1,22 @@
 -- No second result fits a contract. Each line is about the contract itself, as the check reads it from the source.
 -- Assumes nothing.
-use mathlib.Core.Path.{◌≡◌, ◌∙◌, sym}
-use seplogic.Ra.Ura.{Ura}
-use base.Logic.{SProp, ent, sep, fst∗, snd∗}
-use contract.Lifetimes.{Lfts}
-use contract.Monad.{Fun, fact, fact_i, fact_use}
-use denote.Triple.Clauses.{Ended, Clauses, AtExit}
-use denote.Triple.Entry.{Args, Res}
-use types.Logic.{Logic}
-use prog.Memory.{Memory}
-use prog.Routine.{Routine}
+use mathlib.Core.Path.{◌≡◌, refl, ap, ◌∙◌, sym}
 use Rattle.word.specs.Only.{Only}
 use Rattle.section.proofs.open.Reads as opening
 use Rattle.section.proofs.is_end.Reads as is_end
 use Rattle.section.proofs.with_word.Reads as with_word
 use Rattle.section.proofs.replace.Reads as replace
-use Rattle.section.specs.contracts.next as next
-use Rattle.section.specs.contracts.read as read
+use Rattle.section.proofs.read.Reads as read
+use Rattle.section.proofs.reader.Section.open.Reads as section_open
+use Rattle.section.proofs.reader.Section.opened.Reads as opened
+use Rattle.section.proofs.reader.Section.at.Reads as at
+use Rattle.section.proofs.reader.Section.bytes.Reads as bytes
+use Rattle.section.specs.Section.{opened_in, Step}
+use Rattle.section.specs.declared.Here.{Here}
+use Rattle.section.proofs.reader.ReaderIterator.next.Reads as next
+use Rattle.section.proofs.reader.Section.places.Reads as places
+use Rattle.std.proofs.Common.{List, [], ◌∷◌, length, get_or, arith}
+use Rattle.std.specs.Prelude.{Option, Some, None, MatchOption}
 
 pub open_only : Only opening.Post
 open_only κs a r r' s s' p q = p ∙ sym q
@@ -30,25 +30,37 @@ with_word_only κs a r r' s s' p q = p ∙ sym q
 pub replace_only : (κs : _) (a : _) (r r' : _) (s s' : _) → replace.Post κs a r s → replace.Post κs a r' s' → s.0.now ≡ s'.0.now
 replace_only κs a r r' s s' p q = p ∙ sym q
 
--- The contracts over a reader are read by no `Post`: of them it is said in the logic, for each of its models, that the
--- clauses of two results give their equality.
-module _ {M : Type 1} (𝓤 : Ura M) where
-  abbrev pub OnlyOf : (T : Ended) → Clauses 𝓤 T → Type 1
-  OnlyOf T c =
-      (κs : Lfts T.signature.lifetimes) (a : Args T.signature κs) (g : (c κs a).ghost) (r r' : Res T.signature κs) (s s' : AtExit T κs)
-      → ent 𝓤 (sep 𝓤 ((c κs a).ensures g r s) ((c κs a).ensures g r' s')) (fact 𝓤 (r ≡ r'))
+pub read_only : Only read.Post
+read_only κs a r r' s s' p q = p ∙ sym q
 
-  fixed : {R : Type 0} (x r r' : R) → ent 𝓤 (sep 𝓤 (fact 𝓤 (r ≡ x)) (fact 𝓤 (r' ≡ x))) (fact 𝓤 (r ≡ r'))
-  fixed x r r' =
-      let one = fact 𝓤 (r ≡ x) in
-      let other = fact 𝓤 (r' ≡ x) in
-      fact_use 𝓤 (r ≡ x) (fst∗ 𝓤 one other) (λ p.
-      fact_use 𝓤 (r' ≡ x) (snd∗ 𝓤 one other) (λ q.
-      fact_i 𝓤 (r ≡ r') (sep 𝓤 one other) (p ∙ sym q)))
+pub section_open_only : Only section_open.Post
+section_open_only κs a r r' s s' p q = p ∙ sym q
 
-  module _ (𝓛 : Logic 𝓤) (mem : Memory → SProp 𝓤) (run : Routine → Fun 𝓤) where
-    pub next_only : OnlyOf next.ended (next.clauses 𝓛 mem run)
-    next_only κs a g r r' s s' = fixed _ r r'
+pub opened_only : Only opened.Post
+opened_only κs a r r' s s' p q = ap opened_in (sym p ∙ q)
 
-    pub read_only : OnlyOf read.ended (read.clauses 𝓛 mem run)
-    read_only κs a g r r' s s' = fixed _ r r'
+pub at_only : Only at.Post
+at_only κs a r r' s s' p q = p ∙ sym q
+
+pub bytes_only : (κs : _) (a : _) (r r' : _) (s s' : _) → bytes.Post κs a r s → bytes.Post κs a r' s' → r.now ≡ r'.now
+bytes_only κs a r r' s s' p q = p ∙ sym q
+
+-- the first of a list is one, and a list that is empty has none
+one_first : (left t t' : List Here) (x x' : Option Here)
+    → MatchOption x ((left ≡ []) × (t ≡ [])) (λ here. left ≡ here ∷ t) → MatchOption x' ((left ≡ []) × (t' ≡ [])) (λ here. left ≡ here ∷ t') → x ≡ x'
+one_first left t t' None None p q = refl
+one_first left t t' None (Some here) p q = absurd (let z : ⊥ = omega (arith, ap length p.0, ap length q) in z)
+one_first left t t' (Some here) None p q = absurd (let z : ⊥ = omega (arith, ap length p, ap length q.0) in z)
+one_first left t t' (Some here) (Some here') p q = ap (λ (l : List Here). Some (get_or l 0 here)) (sym p ∙ q)
+
+pub next_only : (κs : _) (a : _) (r r' : _) (s s' : _) → next.Post κs a r s → next.Post κs a r' s'
+    → (r ≡ r') × (s.0.now.place ≡ s'.0.now.place) × (s.0.now.bytes ≡ s'.0.now.bytes)
+next_only κs a r r' s s' p q = (
+  one_first _ _ _ r r' p.0.0 q.0.0,
+  ap (λ (x : Step). x.after) (p.0.1 ∙ sym q.0.1),
+  p.0.2 ∙ sym q.0.2,
+)
+
+pub places_only : (κs : _) (a : _) (r r' : _) (s s' : _) → places.Post κs a r s → places.Post κs a r' s'
+    → (r.bytes.now ≡ r'.bytes.now) × (r.place ≡ r'.place)
+places_only κs a r r' s s' p q = (p.0 ∙ sym q.0, p.1 ∙ sym q.1)

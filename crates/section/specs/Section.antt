@@ -1,14 +1,14 @@
 -- A section of words and data (01, "Section and listing" and "Refusal numbers"; 02, P6).
-use Rattle.std.specs.Prelude.{Bool, true, false, not, List, [], ◌∷◌, ◌++◌, ℕ, zero, suc, ◌+◌, ◌-◌, ◌*◌, ◌/◌, ◌%◌, ◌^◌, eqb, ltb, length, get_or}
+use Rattle.std.specs.Prelude.{◌≡◌, Bool, true, false, not, List, [], ◌∷◌, ◌++◌, ℕ, zero, suc, ◌+◌, ◌-◌, ◌*◌, ◌/◌, ◌%◌, ◌^◌, eqb, ltb, length, get_or, drop, Option, Some, None, Result, Ok, Err}
 use Rattle.word.specs.Bytes.{word_at}
 use Rattle.word.specs.Choice.{pick, both}
-use Rattle.word.specs.Refusal.{BAD_MARK, BAD_VERSION, BAD_LENGTH, TOO_MANY_WORDS, BAD_RANGES, BAD_BASE}
+use Rattle.word.specs.Refusal.{BAD_MARK, BAD_VERSION, BAD_LENGTH, TOO_MANY_WORDS, BAD_RANGES, BAD_BASE, refusing}
+use Rattle.word.specs.declared.refusal.Refusal.{Refusal}
 use Rattle.section.specs.Ranges.{rules_hold, is_data}
 use Rattle.section.specs.declared.Range.{Range}
 use Rattle.section.specs.declared.Opened.{Opened}
 use Rattle.section.specs.declared.Here.{Here}
 use Rattle.section.specs.declared.Here.TheVariants.{Word, Data, End}
-use Rattle.section.specs.declared.Step.{Step}
 
 -- "A section: `RSX`, version (2 bytes), base (4 bytes), words, low byte first"
 abbrev pub marked_of : List ℕ → Bool
@@ -67,11 +67,23 @@ refusal_of s =
     0))))))))
 
 -- what a section is opened to; "A refusal returns its number only"
-unfoldable pub opened_of : List ℕ → Opened
+unfoldable pub opened_of : List ℕ → Result Opened Refusal
 opened_of s =
     pick (eqb (refusal_of s) 0)
-    (record { refusal = 0; version = version_of s; base = base_of s; count = count_of s; ranges = range_count s; start = start_of s })
-    (record { refusal = refusal_of s; version = 0; base = 0; count = 0; ranges = 0; start = 0 })
+    (Ok (record { version = version_of s; base = base_of s; count = count_of s; ranges = range_count s; start = start_of s }))
+    (refusing (refusal_of s))
+
+-- the bytes of a section that is accepted
+abbrev pub section_of : List ℕ → Result (List ℕ) Refusal
+section_of s = pick (eqb (refusal_of s) 0) (Ok s) (refusing (refusal_of s))
+
+-- what it is opened to, where one that is refused has no places
+abbrev pub opened_in : Result Opened Refusal → Opened
+opened_in (Ok o) = o
+opened_in (Err r) = record { version = 0; base = 0; count = 0; ranges = 0; start = 0 }
+
+abbrev pub opening_of : List ℕ → Opened
+opening_of s = opened_in (opened_of s)
 
 -- "each word with base + 4 x place"; a word that a range has is data
 abbrev pub here_at : List ℕ → Opened → ℕ → Here
@@ -87,7 +99,7 @@ is_end End = true
 
 -- a section as a list: what stands at each of its places. One that is refused has none
 unfoldable pub places_of : List ℕ → List Here
-places_of s = firsts (here_at s (opened_of s)) (opened_of s).count
+places_of s = firsts (here_at s (opening_of s)) (opening_of s).count
 
 -- "It gives each word with base + 4 x place, then the end"
 abbrev pub here_of : List ℕ → ℕ → Here
@@ -97,5 +109,23 @@ here_of s place = get_or (places_of s) place End
 abbrev pub after_of : List ℕ → ℕ → ℕ
 after_of s place = pick (ltb place (length (places_of s))) (place + 1) place
 
+-- what is left from a place on
+abbrev pub left_of : List ℕ → ℕ → List Here
+left_of s place = drop place (places_of s)
+
+-- where nothing is left, the end
+abbrev pub here_in : Option Here → Here
+here_in None = End
+here_in (Some here) = here
+
+-- what a reader finds at its place, and the place that it goes on to
+pub record Step : Type 0 where
+  pub here : Here
+  pub after : ℕ
+
 abbrev pub step_of : List ℕ → ℕ → Step
 step_of s place = record { here = here_of s place; after = after_of s place }
+
+-- what it finds as an option, none at the end, and where it goes on
+abbrev pub Steps : List ℕ → ℕ → Option Here → ℕ → Type 0
+Steps s place found after = record { here = here_in found; after = after } ≡ step_of s place

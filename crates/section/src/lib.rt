@@ -4,11 +4,16 @@
 ghost use Rattle.std.specs.Prelude.{◌≡◌, true, ◌+◌, ◌-◌, ◌*◌, ◌<◌, ◌≤◌, ltb, length};
 ghost use Rattle.section.specs.Ranges.{end_of, follows, rules_hold, is_data};
 ghost use Rattle.section.specs.Section.{marked_of, half_at, version_of, is_known, base_of, range_count, start_of, range_at, ranges_of, count_of};
-ghost use Rattle.section.specs.Section.{refusal_of, opened_of, here_at, is_end, step_of};
+ghost use Rattle.section.specs.Section.{refusal_of, opened_of, opening_of, here_at, here_of, is_end};
 ghost use Rattle.section.specs.Replaced.{replaced_of, with_word};
+ghost use Rattle.word.specs.Refusal.{refused_with};
 
-use word::refusal::{BAD_BASE, BAD_LENGTH, BAD_MARK, BAD_RANGES, BAD_VERSION, TOO_MANY_WORDS};
+use word::refusal::Refusal;
 use word::word_at;
+
+mod reader;
+
+pub use reader::{Reader, Section};
 
 /// Mark, version and base: the bytes before the words of version 1.
 const HEADER: usize = 9;
@@ -26,11 +31,10 @@ pub const MOST_WORDS: usize = 4096;
 /// What lies behind the last address.
 pub const END: usize = 0x1_0000_0000;
 
-/// What a section is opened to, once, for all that go through it: a refusal's number alone, or 0 with the version, the base, how many words
-/// there are, how many ranges of them are data, and where the words start.
-#[derive(Clone, Copy)]
+/// What a section that is accepted is opened to, once, for all that go through it: the version, the base, how many words there are, how many ranges
+/// of them are data, and where the words start.
+#[derive(Clone, Copy, PartialEq, Eq)]
 pub struct Opened {
-    pub refusal: u8,
     pub version: u16,
     pub base: u32,
     pub count: u32,
@@ -38,96 +42,74 @@ pub struct Opened {
     pub start: usize,
 }
 
-pub fn open(bytes: &[u8]) -> Opened
+pub fn open(bytes: &[u8]) -> Result<Opened, Refusal>
     ensures { result ≡ opened_of bytes.now }
 {
-    let refusal = refusal(bytes);
-    if refusal == 0 {
-        Opened {
-            refusal: 0,
-            version: version(bytes),
-            base: base(bytes),
-            count: count(bytes) as u32,
-            ranges: ranges(bytes),
-            start: start(bytes),
-        }
-    } else {
-        Opened {
-            refusal,
-            version: 0,
-            base: 0,
-            count: 0,
-            ranges: 0,
-            start: 0,
-        }
-    }
+    check(bytes)?;
+    Ok(Opened {
+        version: version(bytes),
+        base: base(bytes),
+        count: count(bytes) as u32,
+        ranges: ranges(bytes),
+        start: start(bytes),
+    })
 }
 
-/// The number of the first check that fails, or 0.
-fn refusal(bytes: &[u8]) -> u8
-    ensures { result ≡ refusal_of bytes.now }
+/// The checks, in their order.
+fn check(bytes: &[u8]) -> Result<(), Refusal>
+    ensures { refused_with result ≡ refusal_of bytes.now }
 {
     if bytes.len() < HEADER {
-        return BAD_LENGTH;
+        return Err(Refusal::BadLength);
     }
     if !is_marked(bytes) {
-        return BAD_MARK;
+        return Err(Refusal::BadMark);
     }
     if !is_known(version(bytes)) {
-        return BAD_VERSION;
+        return Err(Refusal::BadVersion);
     }
     if is_cut(bytes) {
-        return BAD_LENGTH;
+        return Err(Refusal::BadLength);
     }
-    words_refusal(bytes)
+    check_words(bytes)
 }
 
 /// The same where what stands before the words has passed its checks.
-fn words_refusal(bytes: &[u8]) -> u8
+fn check_words(bytes: &[u8]) -> Result<(), Refusal>
     requires in_bounds { (9 ≤ length bytes.now) × (marked_of bytes.now ≡ true) × (is_known (version_of bytes.now) ≡ true) }
     requires bytes_in_bounds { start_of bytes.now ≤ length bytes.now }
-    ensures { result ≡ refusal_of bytes.now }
+    ensures { refused_with result ≡ refusal_of bytes.now }
 {
     if (bytes.len() - start(bytes)) % 4 != 0 {
-        return BAD_LENGTH;
+        return Err(Refusal::BadLength);
     }
     let count = count(bytes);
     if MOST_WORDS < count {
-        return TOO_MANY_WORDS;
+        return Err(Refusal::TooManyWords);
     }
     if !do_rules_hold(bytes, ranges(bytes) as usize, count) {
-        return BAD_RANGES;
+        return Err(Refusal::BadRanges);
     }
     let base = base(bytes);
-    if base % 4 != 0 {
-        return BAD_BASE;
+    if base % 4 != 0 || END < base as usize + 4 * count {
+        return Err(Refusal::BadBase);
     }
-    if END < base as usize + 4 * count {
-        return BAD_BASE;
-    }
-    0
+    Ok(())
 }
 
+/// Each of these reads what the checks before it found there, and says so: a value of it all is made only after the last.
 fn is_marked(bytes: &[u8]) -> bool
     requires { 9 ≤ length bytes.now }
     ensures { result ≡ marked_of bytes.now }
 {
-    if bytes[0] == b'R' {
-        if bytes[1] == b'S' {
-            bytes[2] == b'X'
-        } else {
-            false
-        }
-    } else {
-        false
-    }
+    bytes.starts_with(b"RSX")
 }
 
 fn half_at(bytes: &[u8], at: usize) -> u16
     requires { at + 2 ≤ length bytes.now }
     ensures { result ≡ half_at bytes.now at }
 {
-    bytes[at] as u16 + 0x100 * (bytes[at + 1] as u16)
+    u16::from_le_bytes([bytes[at], bytes[at + 1]])
 }
 
 fn version(bytes: &[u8]) -> u16
@@ -140,7 +122,7 @@ fn version(bytes: &[u8]) -> u16
 fn is_known(version: u16) -> bool
     ensures { result ≡ is_known version }
 {
-    if version == 1 { true } else { version == 2 }
+    version == 1 || version == 2
 }
 
 fn base(bytes: &[u8]) -> u32
@@ -155,15 +137,8 @@ fn is_cut(bytes: &[u8]) -> bool
     requires { 9 ≤ length bytes.now }
     ensures { result ≡ ltb (length bytes.now) (start_of bytes.now) }
 {
-    if version(bytes) == 2 {
-        if bytes.len() < RANGES {
-            true
-        } else {
-            bytes.len() < RANGES + RANGE * half_at(bytes, HEADER) as usize
-        }
-    } else {
-        false
-    }
+    version(bytes) == 2
+        && (bytes.len() < RANGES || bytes.len() < RANGES + RANGE * half_at(bytes, HEADER) as usize)
 }
 
 fn ranges(bytes: &[u8]) -> u16
@@ -197,7 +172,7 @@ fn count(bytes: &[u8]) -> usize
 }
 
 /// A range of words that are data: its first place, and how many there are.
-#[derive(Clone, Copy)]
+#[derive(Clone, Copy, PartialEq, Eq)]
 pub struct Range {
     pub first: u32,
     pub words: u32,
@@ -225,15 +200,7 @@ fn end(range: Range) -> usize
 fn follows(range: Range, from: usize, count: usize) -> bool
     ensures { result ≡ follows count from range }
 {
-    if 0 < range.words {
-        if end(range) <= count {
-            from <= range.first as usize
-        } else {
-            false
-        }
-    } else {
-        false
-    }
+    0 < range.words && end(range) <= count && from <= range.first as usize
 }
 
 /// Whether so many ranges break no rule in a section of `count` words.
@@ -245,26 +212,23 @@ fn do_rules_hold(bytes: &[u8], ranges: usize, count: usize) -> bool
         return false;
     }
     let mut from = 0;
-    let mut i = 0;
-    while i < ranges {
+    // By number, as `ranges_of` has them: the ranges stand in the caller's bytes, and are at most 64.
+    for i in 0..ranges {
         let range = range_at(bytes, i);
         if !follows(range, from, count) {
             return false;
         }
         from = end(range);
-        i += 1;
     }
     true
 }
 
 /// Whether a range has the place. They ascend: where one starts beyond the place, so do all after it.
 fn is_data(bytes: &[u8], opened: Opened, place: usize) -> bool
-    requires { opened ≡ opened_of bytes.now }
+    requires { opened ≡ opening_of bytes.now }
     ensures { result ≡ is_data (ranges_of bytes.now opened.ranges) place }
 {
-    let ranges = opened.ranges as usize;
-    let mut i = 0;
-    while i < ranges {
+    for i in 0..opened.ranges as usize {
         let range = range_at(bytes, i);
         if place < range.first as usize {
             return false;
@@ -272,13 +236,13 @@ fn is_data(bytes: &[u8], opened: Opened, place: usize) -> bool
         if place < end(range) {
             return true;
         }
-        i += 1;
     }
     false
 }
 
-/// What stands at a place: a word and its address, or data and its address, or the end.
-#[derive(Clone, Copy)]
+/// What stands at a place: a word and its address, or data and its address, or the end. The end is one of them and no `None`, since `here_of` and
+/// `step_of`, and what is proved of every place by them, speak of it: a tally counts a section there.
+#[derive(Clone, Copy, PartialEq, Eq)]
 pub enum Here {
     Word(u32, u32),
     Data(u32, u32),
@@ -289,39 +253,14 @@ pub fn is_end(here: Here) -> bool
     ensures { result ≡ is_end here }
 {
     match here {
-        Here::Word(_, _) => false,
-        Here::Data(_, _) => false,
+        Here::Word(_, _) | Here::Data(_, _) => false,
         Here::End => true,
-    }
-}
-
-/// What stands at a place, and the place after it. The end comes after itself.
-#[derive(Clone, Copy)]
-pub struct Step {
-    pub here: Here,
-    pub after: usize,
-}
-
-fn step_at(bytes: &[u8], opened: Opened, place: usize) -> Step
-    requires { opened ≡ opened_of bytes.now }
-    ensures { result ≡ step_of bytes.now place }
-{
-    if place < opened.count as usize {
-        Step {
-            here: here_at(bytes, opened, place),
-            after: place + 1,
-        }
-    } else {
-        Step {
-            here: Here::End,
-            after: place,
-        }
     }
 }
 
 /// What stands at a place before the end.
 fn here_at(bytes: &[u8], opened: Opened, place: usize) -> Here
-    requires { (opened ≡ opened_of bytes.now) × (place < opened.count) }
+    requires { (opened ≡ opening_of bytes.now) × (place < opened.count) }
     ensures { result ≡ here_at bytes.now opened place }
 {
     let word = word_at(bytes, opened.start + 4 * place);
@@ -333,32 +272,17 @@ fn here_at(bytes: &[u8], opened: Opened, place: usize) -> Here
     }
 }
 
-/// The caller's bytes, what they were opened to, and a place.
-#[derive(Clone, Copy)]
-pub struct Reader<'a> {
-    pub bytes: &'a [u8],
-    pub opened: Opened,
-    pub place: usize,
-}
-
-/// What a reader finds at its place, and the place to go on to.
-pub fn next<'a>(r: Reader<'a>) -> Step
-    requires { r.opened ≡ opened_of r.bytes.now }
-    ensures { result ≡ step_of r.entry.bytes.now r.entry.place }
+/// What stands at a place, or the end. It takes the bytes and what they were opened to, as `replace` does, for what changes a section while it goes
+/// through it: a `Section` holds its bytes lent.
+pub fn read(bytes: &[u8], opened: Opened, place: usize) -> Here
+    requires { opened ≡ opening_of bytes.now }
+    ensures { result ≡ here_of bytes.now place }
 {
-    step_at(r.bytes, r.opened, r.place)
-}
-
-/// What a reader of `bytes` finds at `place`. Callers hold its parts and no reader, since every function over one is proved by hand.
-pub fn read(bytes: &[u8], opened: Opened, place: usize) -> Step
-    requires { opened ≡ opened_of bytes.now }
-    ensures { result ≡ step_of bytes.now place }
-{
-    next(Reader {
-        bytes,
-        opened,
-        place,
-    })
+    if place < opened.count as usize {
+        here_at(bytes, opened, place)
+    } else {
+        Here::End
+    }
 }
 
 /// What stands at a place where its word is replaced: data stays data.
@@ -374,12 +298,9 @@ pub fn with_word(here: Here, word: u32) -> Here
 
 /// Replaces the word at a place.
 pub fn replace(bytes: &mut [u8], opened: Opened, place: usize, word: u32)
-    requires { (opened ≡ opened_of bytes.old) × (place < opened.count) }
+    requires { (opened ≡ opening_of bytes.old) × (place < opened.count) }
     ensures { bytes.new ≡ replaced_of bytes.old place word }
 {
     let at = opened.start + 4 * place;
-    bytes[at] = (word % 0x100) as u8;
-    bytes[at + 1] = (word / 0x100 % 0x100) as u8;
-    bytes[at + 2] = (word / 0x1_0000 % 0x100) as u8;
-    bytes[at + 3] = (word / 0x100_0000 % 0x100) as u8;
+    bytes[at..at + 4].copy_from_slice(&word.to_le_bytes());
 }

@@ -10,8 +10,8 @@ use lib.ListN.{length, get_or, drop}
 use lib.Seq.{get_or-drop, drop-cons}
 use Rattle.word.specs.Bytes.{word_at}
 use Rattle.word.specs.Choice.{by_test}
-use Rattle.section.specs.Section.{half_at, version_of, count_of, firsts, refusal_of, opened_of, here_at, places_of}
-use Rattle.section.proofs.Accepted.{opens, refuses}
+use Rattle.section.specs.Section.{half_at, version_of, count_of, firsts, refusal_of, opening_of, here_at, places_of}
+use Rattle.section.proofs.Accepted.{opening, holds_none}
 use Rattle.section.proofs.Firsts.{same_firsts}
 
 -- mark, base and the bytes of the words
@@ -102,15 +102,15 @@ module _ (p : Parts) where
       (λ e. accepted (eqb-true (refusal_of (one p)) 0 e))
       (λ e. refused (eqb-false (refusal_of (one p)) 0 e))
     where
-      at_each : refusal_of (one p) ≡ 0 → (place : ℕ) → here_at (two p) (opened_of (two p)) place ≡ here_at (one p) (opened_of (one p)) place
+      at_each : refusal_of (one p) ≡ 0 → (place : ℕ) → here_at (two p) (opening_of (two p)) place ≡ here_at (one p) (opening_of (one p)) place
       at_each ok place =
-          rw (opens (one p) ok, opens (two p) (same_refusal ∙ ok), word_after 11 (two p) (4 * place), word_after 9 (one p) (4 * place))
+          rw (opening (one p) ok, opening (two p) (same_refusal ∙ ok), word_after 11 (two p) (4 * place), word_after 9 (one p) (4 * place))
 
       accepted : refusal_of (one p) ≡ 0 → places_of (two p) ≡ places_of (one p)
       accepted ok = unfold places_of in
-          same_firsts (opened_of (two p)).count (λ place h. at_each ok place)
-          ∙ ap (λ (n : ℕ). firsts (here_at (one p) (opened_of (one p))) n) {x = (opened_of (two p)).count} {y = (opened_of (one p)).count}
-          (rw (opens (one p) ok, opens (two p) (same_refusal ∙ ok)) same_count)
+          same_firsts (opening_of (two p)).count (λ place h. at_each ok place)
+          ∙ ap (λ (n : ℕ). firsts (here_at (one p) (opening_of (one p))) n) {x = (opening_of (two p)).count} {y = (opening_of (one p)).count}
+          (rw (opening (one p) ok, opening (two p) (same_refusal ∙ ok)) same_count)
 
       refused : (refusal_of (one p) ≡ 0 → ⊥) → places_of (two p) ≡ places_of (one p)
-      refused bad = unfold places_of in rw (refuses (one p) bad, refuses (two p) (λ z. bad (sym same_refusal ∙ z)))
+      refused bad = unfold places_of in rw (holds_none (one p) bad, holds_none (two p) (λ z. bad (sym same_refusal ∙ z)))

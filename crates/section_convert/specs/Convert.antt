@@ -1,9 +1,8 @@
 -- A section in its other version (02, P6).
 use Rattle.std.specs.Prelude.{List, [], ◌∷◌, ◌++◌, ℕ, eqb, take, drop}
 use Rattle.word.specs.Choice.{pick}
-use Rattle.word.specs.Refusal.{HAS_RANGES}
-use Rattle.text.specs.Fits.{answer_of, last_of}
-use Rattle.text.specs.declared.Written.{Written}
+use Rattle.word.specs.Refusal.{HAS_RANGES, refusing}
+use Rattle.text.specs.Fits.{Written, answer_of, last_of}
 use Rattle.section.specs.Section.{version_of, range_count, refusal_of}
 use Rattle.section_convert.specs.declared.Target.{Target}
 use Rattle.section_convert.specs.declared.Target.TheVariants.{One, Two}
@@ -37,10 +36,6 @@ converted_of Two s = pick (eqb (version_of s) 2) s (as_two s)
 unfoldable pub conversion_refusal : Target → List ℕ → ℕ
 conversion_refusal One s = pick (eqb (refusal_of s) 0) (pick (eqb (range_count s) 0) 0 HAS_RANGES) (refusal_of s)
 conversion_refusal Two s = refusal_of s
-
--- a refusal's number, and nothing written
-abbrev pub refusing : ℕ → Written
-refusing n = record { refusal = n; len = 0 }
 
 -- the converted section's length; "last 10 when the converted section doesn't fit the lent buffer"
 unfoldable pub given_of : Target → List ℕ → List ℕ → Written

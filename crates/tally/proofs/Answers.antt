@@ -1,10 +1,10 @@
 -- What adding a section answers and leaves, by the checks in their order. Assumes nothing.
-use Rattle.std.proofs.Common.{◌≡◌, ℕ, ◌<◌, ◌≤◌, eqb, ltb, List, length, get_or, arith, ltb-false, le-ltb, lt-ltb, eq-eqb, ne_eqb}
+use Rattle.std.proofs.Common.{◌≡◌, sym, ℕ, ◌<◌, ◌≤◌, eqb, ltb, List, length, get_or, arith, ltb-false, le-ltb, lt-ltb, eq-eqb, ne_eqb}
 use borrow.Author.Tests.{eqb-false}
 use Rattle.word.specs.Choice.{fails, by_test}
 use Rattle.word.specs.Refusal.{NO_ROOM, TOO_MANY_SECTIONS}
 use Rattle.tally.specs.Kinds.{COUNTS}
-use Rattle.tally.specs.Tally.{MOST, refusal_of, lent_refusal}
+use Rattle.tally.specs.Tally.{MOST, refusal_of, last_of, lent_refusal}
 
 module _ (own : ℕ) (counts : List ℕ) where
   pub its_own : (own ≡ 0 → ⊥) → own ≡ lent_refusal own counts
@@ -37,3 +37,7 @@ module _ (own : ℕ) (counts : List ℕ) where
       (λ ok. let ten : NO_ROOM ≡ 0 = simp (short, ok) at none in absurd (omega arith))
       (λ bad. absurd (eqb-false own 0 bad (simp (short, bad) at none))))
       (λ long. ltb-false (length counts) COUNTS long)
+
+-- a section with a refusal of its own changes none
+pub stays : (own : ℕ) (s counts : List ℕ) → (own ≡ 0 → ⊥) → counts ≡ last_of (lent_refusal own counts) s counts
+stays own s counts bad = simp (sym (its_own own counts bad), ne_eqb own 0 bad)

@@ -1,6 +1,6 @@
 -- How many of what stands in sections are of a kind: of sections one after the other, and at most. Assumes nothing.
 use Rattle.std.proofs.Common.{◌≡◌, ℕ, zero, suc, ◌+◌, ◌*◌, ◌≤◌, Bool, true, false, List, [], ◌∷◌, ◌++◌, length, sym, refl, ap, ◌∙◌, true≢false, append_assoc, arith, length-append}
-use Rattle.section.specs.Section.{firsts, opened_of, here_at, places_of}
+use Rattle.section.specs.Section.{firsts, opening_of, here_at, places_of}
 use Rattle.section.specs.declared.Here.{Here}
 use Rattle.section.specs.declared.Here.TheVariants.{Word, Data, End}
 use Rattle.section.proofs.Accepted.{opened}
@@ -49,7 +49,7 @@ none_ends at some (suc n) =
     omega (arith, many_append (is_of sections) (firsts at n) (at n ∷ []), none_ends at some n, ap one (no_end (at n) (some n)))
 
 no_ends : (s : List ℕ) → how_many (is_of sections) (places_of s) ≡ 0
-no_ends s = unfold places_of in none_ends (here_at s (opened_of s)) (something s (opened_of s)) (opened_of s).count
+no_ends s = unfold places_of in none_ends (here_at s (opening_of s)) (something s (opening_of s)) (opening_of s).count
 
 pub sections_once : (ss : List (List ℕ)) → count_of ss sections ≡ length ss
 sections_once [] = refl

@@ -1,11 +1,13 @@
 -- A tally at the start of lent numbers is added to as a tally is, and what stands behind it stays. Assumes nothing.
 use Rattle.std.proofs.Common.{◌≡◌, ℕ, ◌+◌, ◌%◌, ◌^◌, ◌<◌, ◌≤◌, eqb, List, [], ◌∷◌, ◌++◌, length, get_or, sym, refl, ap, ◌∙◌, arith, length-append, eqb-true}
+use Rattle.word.specs.Refusal.{refused_with}
 use borrow.Author.Tests.{eqb-false}
 use lib.ListN.{get_or-append}
 use Rattle.word.specs.Choice.{by_test}
 use Rattle.tally.specs.Kinds.{Kind, layout, COUNTS}
-use Rattle.tally.specs.Tally.{count_of, own_of, refusal_of, plus_on, plus, last_of, add_of, lent_refusal, lent_last}
+use Rattle.tally.specs.Tally.{count_of, own_of, refusal_of, plus_on, plus, last_of, add_of, next, lent_refusal, lent_last}
 use Rattle.tally.specs.declared.Tally.{Tally}
+use Rattle.tally.proofs.Tallied.{answers, leaves}
 use Rattle.tally.proofs.Answers.{its_own, too_short, of_tally}
 
 beside : (kinds : List Kind) (n : Kind → ℕ) (counts rest : List ℕ) → length kinds ≤ length counts
@@ -28,13 +30,14 @@ module _ (counts rest : List ℕ) (long : COUNTS ≤ length counts) where
       ∙ ap (refusal_of own) (get_or-append counts rest 0 0 (omega arith))
 
 module _ (t : Tally) (rest s : List ℕ) (long : COUNTS ≤ length t.counts) where
-  pub lent_refusal_lem : lent_refusal (own_of s) (t.counts ++ rest) ≡ (add_of t s).refusal
-  lent_refusal_lem = unfold add_of in refusal_beside t.counts rest long (own_of s)
+  pub lent_refusal_lem : lent_refusal (own_of s) (t.counts ++ rest) ≡ refused_with (add_of t s)
+  lent_refusal_lem = refusal_beside t.counts rest long (own_of s) ∙ sym (answers t s)
 
-  pub lent_last_lem : lent_last s (t.counts ++ rest) ≡ (add_of t s).tally.counts ++ rest
-  lent_last_lem = unfold add_of in
+  pub lent_last_lem : lent_last s (t.counts ++ rest) ≡ (next t s).counts ++ rest
+  lent_last_lem =
       ap (λ (r : ℕ). last_of r s (t.counts ++ rest)) (refusal_beside t.counts rest long (own_of s))
       ∙ last_beside t.counts rest long (refusal_of (own_of s) (get_or t.counts 0 0)) s
+      ∙ ap (λ (counts : List ℕ). counts ++ rest) (sym (leaves t s))
 
 -- numbers too few for a tally stay as they are
 pub too_few : (s counts : List ℕ) → length counts < COUNTS → lent_last s counts ≡ counts

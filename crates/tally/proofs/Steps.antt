@@ -1,10 +1,11 @@
 -- What stands at a place of a section adds to its kinds, one at the place of each. Assumes nothing.
 use Rattle.std.proofs.Common.{◌≡◌, ℕ, ◌+◌, ◌<◌, ◌≤◌, Bool, true, eqb, ltb, leb, ◌⊎◌, List, sym, refl, ap, ◌∙◌, ⊎_elim, arith, ltb-true, eq-eqb, ne_eqb, eqb-true, leb-true}
+use Rattle.word.specs.Refusal.{refused_with}
 use borrow.Author.Tests.{eqb-false}
 use Rattle.word.specs.Choice.{inside, parts, by_test}
 use Rattle.insn.specs.Numbers.{flow_number}
 use Rattle.insn.specs.Roots.{NAMES}
-use Rattle.insn.specs.declared.Decoded.{Decoded}
+use Rattle.insn.specs.Answer.{Decoded, insn_in}
 use Rattle.insn.specs.declared.Flow.{Flow}
 use Rattle.insn.specs.declared.Flow.TheVariants.{Next, Branch, CondBranch, IndirectBranch, Call, IndirectCall, Return, Trap}
 use Rattle.tally.specs.Kinds.{Kind, sections, words, pool, refusal, flow, root, one, word_is, data_is, end_is}
@@ -53,14 +54,14 @@ flow_small Trap = omega arith
 refusal_laid : (n : ℕ) → is_laid (refusal n) ≡ true → (2 ≤ n) × (n ≤ 3)
 refusal_laid n l = let p = parts (leb 2 n) (leb n 3) l in (leb-true 2 n p.0, leb-true n 3 p.1)
 
-module _ (d : Decoded) (ok : d.refusal ≡ 0) where
+module _ (d : Decoded) (ok : refused_with d ≡ 0) where
   f : ℕ
-  f = flow_number d.insn.flow
+  f = flow_number (insn_in d).flow
 
   n : ℕ
-  n = d.insn.name
+  n = (insn_in d).name
 
-  pub named_adds : Same (λ kind. at 1 kind + flow_and_root d.insn kind) (λ kind. one (word_is d kind))
+  pub named_adds : Same (λ kind. at 1 kind + flow_and_root (insn_in d) kind) (λ kind. one (word_is d kind))
   unfolding f n
   named_adds sections l = omega (arith, off 0 (5 + f) (λ e. omega arith), off 0 (13 + n) (λ e. omega arith))
   named_adds words l = omega (arith, off 1 (5 + f) (λ e. omega arith), off 1 (13 + n) (λ e. omega arith))
@@ -72,38 +73,38 @@ module _ (d : Decoded) (ok : d.refusal ≡ 0) where
         off (1 + m) 1 (λ e. omega arith),
         off (1 + m) (5 + f) (λ e. omega arith),
         off (1 + m) (13 + n) (λ e. omega arith),
-        off d.refusal m (λ e. omega arith),
+        off (refused_with d) m (λ e. omega arith),
       )
   named_adds (flow m) l =
       let h = ltb-true m 8 l in
-      simp (eq-eqb d.refusal 0 ok)
+      simp (eq-eqb (refused_with d) 0 ok)
       (omega (arith, off (5 + m) 1 (λ e. omega arith), off (5 + m) (13 + n) (λ e. omega arith), shift 5 m f))
   named_adds (root m) l =
-      simp (eq-eqb d.refusal 0 ok)
+      simp (eq-eqb (refused_with d) 0 ok)
       (omega (
         arith,
         off (13 + m) 1 (λ e. omega arith),
-        off (13 + m) (5 + f) (λ e. omega (arith, flow_small d.insn.flow)),
+        off (13 + m) (5 + f) (λ e. omega (arith, flow_small (insn_in d).flow)),
         shift 13 m n,
       ))
 
-module _ (d : Decoded) (bad : (d.refusal ≡ 2) ⊎ (d.refusal ≡ 3)) where
-  few : (2 ≤ d.refusal) × (d.refusal ≤ 3)
+module _ (d : Decoded) (bad : (refused_with d ≡ 2) ⊎ (refused_with d ≡ 3)) where
+  few : (2 ≤ (refused_with d)) × (refused_with d ≤ 3)
   few = ⊎_elim (λ e. omega arith) (λ e. omega arith) bad
 
-  pub refused_adds : Same (λ kind. at 1 kind + at (1 + d.refusal) kind) (λ kind. one (word_is d kind))
-  refused_adds sections l = let h = few in omega (arith, off 0 (1 + d.refusal) (λ e. omega arith))
-  refused_adds words l = let h = few in omega (arith, off 1 (1 + d.refusal) (λ e. omega arith))
-  refused_adds pool l = let h = few in omega (arith, off 2 (1 + d.refusal) (λ e. omega arith))
-  refused_adds (refusal m) l = let h = refusal_laid m l in omega (arith, off (1 + m) 1 (λ e. omega arith), shift 1 m d.refusal)
+  pub refused_adds : Same (λ kind. at 1 kind + at (1 + (refused_with d)) kind) (λ kind. one (word_is d kind))
+  refused_adds sections l = let h = few in omega (arith, off 0 (1 + (refused_with d)) (λ e. omega arith))
+  refused_adds words l = let h = few in omega (arith, off 1 (1 + (refused_with d)) (λ e. omega arith))
+  refused_adds pool l = let h = few in omega (arith, off 2 (1 + (refused_with d)) (λ e. omega arith))
+  refused_adds (refusal m) l = let h = refusal_laid m l in omega (arith, off (1 + m) 1 (λ e. omega arith), shift 1 m (refused_with d))
   refused_adds (flow m) l =
       let h = few in
-      simp (ne_eqb d.refusal 0 (λ e. omega arith))
-      (omega (arith, off (5 + m) 1 (λ e. omega arith), off (5 + m) (1 + d.refusal) (λ e. omega arith)))
+      simp (ne_eqb (refused_with d) 0 (λ e. omega arith))
+      (omega (arith, off (5 + m) 1 (λ e. omega arith), off (5 + m) (1 + (refused_with d)) (λ e. omega arith)))
   refused_adds (root m) l =
       let h = few in
-      simp (ne_eqb d.refusal 0 (λ e. omega arith))
-      (omega (arith, off (13 + m) 1 (λ e. omega arith), off (13 + m) (1 + d.refusal) (λ e. omega arith)))
+      simp (ne_eqb (refused_with d) 0 (λ e. omega arith))
+      (omega (arith, off (13 + m) 1 (λ e. omega arith), off (13 + m) (1 + (refused_with d)) (λ e. omega arith)))
 
 pub data_adds : Same (λ kind. at 1 kind + at 2 kind) (λ kind. one (data_is kind))
 data_adds sections l = refl

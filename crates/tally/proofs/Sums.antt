@@ -1,10 +1,11 @@
 -- Flows and roots each sum to the accepted words, and words are data, accepted or refused. Assumes nothing.
 use Rattle.std.proofs.Common.{◌≡◌, ℕ, zero, suc, ◌+◌, ◌<◌, Bool, false, eqb, ltb, List, [], ◌∷◌, ◌++◌, map, get_or, sym, refl, ap, ◌∙◌, ⊎_elim, arith, ltb-false, ltb-true, le-ltb, lt-ltb, eq-eqb, ne_eqb, eqb-true}
+use Rattle.word.specs.Refusal.{refused_with}
 use borrow.Author.Tests.{eqb-false}
 use Rattle.word.specs.Choice.{both, by_test}
 use Rattle.insn.specs.Numbers.{flow_number}
 use Rattle.insn.specs.Roots.{NAMES}
-use Rattle.insn.specs.declared.Decoded.{Decoded}
+use Rattle.insn.specs.Answer.{Decoded, insn_in}
 use Rattle.a32.specs.Decode.{decode_of}
 use Rattle.a32_every.proofs.Refusals.{two_or_three}
 use Rattle.line_spelling.proofs.FormedAll.{all_good}
@@ -86,14 +87,14 @@ module _ (kind_of : ℕ → Kind) (number : Kind → ℕ) where
 module _ (kind_of : ℕ → Kind) (number_of : Decoded → ℕ) (bound : ℕ)
     (word-has : (d : Decoded) (n : ℕ) → word_is d (kind_of n) ≡ both (is_accepted d) (eqb (number_of d) n))
     (data-none : (n : ℕ) → data_is (kind_of n) ≡ false) (end_None : (n : ℕ) → end_is (kind_of n) ≡ false)
-    (below : (w addr : ℕ) → (decode_of w addr).refusal ≡ 0 → number_of (decode_of w addr) < bound) where
+    (below : (w addr : ℕ) → refused_with (decode_of w addr) ≡ 0 → number_of (decode_of w addr) < bound) where
   each_named : (here : Here) → sum_on (λ kind. one (is_of kind here)) (firsts kind_of bound) ≡ one (is_named here)
   each_named (Word w addr) =
       let d = decode_of w addr in
       by_test (is_accepted d)
       (λ e.
       one_of kind_of (λ kind. one (word_is d kind)) (number_of d) (λ n. ap one (word-has d n ∙ ap (λ (b : Bool). both b (eqb (number_of d) n)) e)) bound
-      ∙ ap one (lt-ltb (number_of d) bound (below w addr (eqb-true d.refusal 0 e)) ∙ sym e))
+      ∙ ap one (lt-ltb (number_of d) bound (below w addr (eqb-true (refused_with d) 0 e)) ∙ sym e))
       (λ e.
       none_of kind_of (λ kind. one (word_is d kind)) (λ n. ap one (word-has d n ∙ ap (λ (b : Bool). both b (eqb (number_of d) n)) e)) bound
       ∙ ap one (sym e))
@@ -107,7 +108,7 @@ module _ (kind_of : ℕ → Kind) (number_of : Decoded → ℕ) (bound : ℕ)
 each_word : (here : Here)
     → one (is_of words here) ≡ one (is_of pool here) + (one (is_of (refusal 2) here) + one (is_of (refusal 3) here)) + one (is_named here)
 each_word (Word w addr) =
-    let n = (decode_of w addr).refusal in
+    let n = refused_with (decode_of w addr) in
     by_test (eqb n 0)
     (λ e.
     let zero = eqb-true n 0 e in
@@ -130,12 +131,12 @@ all_words (here ∷ places) = omega (arith, each_word here, all_words places)
 module _ (ss : List (List ℕ)) where
   pub flows_sum : sum (flows_of (counts_of ss)) ≡ how_many is_named (all_of ss)
   flows_sum = unfold counts_of in
-      named_sum flow (λ d. flow_number d.insn.flow) 8 (λ d n. refl) (λ n. refl) (λ n. refl) (λ w addr ok. flow_small (decode_of w addr).insn.flow)
+      named_sum flow (λ d. flow_number (insn_in d).flow) 8 (λ d n. refl) (λ n. refl) (λ n. refl) (λ w addr ok. flow_small (insn_in (decode_of w addr)).flow)
       (all_of ss)
 
   pub roots_sum : sum (roots_of (counts_of ss)) ≡ how_many is_named (all_of ss)
   roots_sum = unfold counts_of in
-      named_sum root (λ d. d.insn.name) NAMES (λ d n. refl) (λ n. refl) (λ n. refl) (λ w addr ok. ((all_good w addr).formed ok).named) (all_of ss)
+      named_sum root (λ d. (insn_in d).name) NAMES (λ d n. refl) (λ n. refl) (λ n. refl) (λ w addr ok. ((all_good w addr).formed ok).named) (all_of ss)
 
   pub words_sum : get_or (counts_of ss) 1 0
       ≡ get_or (counts_of ss) 2 0 + (get_or (counts_of ss) 3 0 + get_or (counts_of ss) 4 0) + how_many is_named (all_of ss)

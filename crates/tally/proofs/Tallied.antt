@@ -1,11 +1,15 @@
 -- The tally of sections that were added one by one, from zeros on: each count is the number of what it counts in those that were added, and none
 -- wraps. Assumes nothing.
 use Rattle.std.proofs.Common.{◌≡◌, ℕ, suc, ◌+◌, ◌-◌, ◌^◌, ◌<◌, ◌≤◌, true, false, eqb, ltb, List, [], ◌∷◌, ◌++◌, map, length, get_or, take, sym, refl, ap, ◌∙◌, ap₂, append_assoc, append-nil, mod-eq_of_lt, arith, length-append, ltb-false, ltb-true, le-ltb, lt-ltb, ne_eqb}
+use Rattle.word.specs.Refusal.{refused_with}
 use mathlib.Core.Path.{fun_ext}
 use lib.Seq.{take-nil}
-use Rattle.word.specs.Choice.{by_test}
+use mathlib.Core.Logic.{inl, inr}
+use Rattle.word.specs.Choice.{by_test, tested}
+use Rattle.section.specs.Section.{opened_of}
+use Rattle.section.proofs.Refused.{InTable, in_table, answers_with}
 use Rattle.tally.specs.Kinds.{Kind, layout}
-use Rattle.tally.specs.Tally.{count_of, counts_of, none_of, own_of, MOST, refusal_of, plus_on, plus, add_of, next, add_all, accepted_of, added_of}
+use Rattle.tally.specs.Tally.{count_of, counts_of, none_of, own_of, MOST, refusal_of, plus_on, plus, last_of, add_of, next, add_all, accepted_of, added_of}
 use Rattle.tally.specs.declared.Tally.{Tally}
 use Rattle.tally.proofs.Counted.{count_append, few, sections_once}
 
@@ -38,11 +42,27 @@ module _ (t : Tally) (s : List ℕ) where
     goes_in : get_or t.counts 0 0 < MOST → next t s ≡ record { counts = plus (count_of (s ∷ [])) t.counts }
     goes_in room = unfold add_of in simp (ok, lt-ltb (get_or t.counts 0 0) MOST room)
 
-  pub answers : (add_of t s).refusal ≡ refusal_of (own_of s) (get_or t.counts 0 0)
-  answers = unfold add_of in refl
+  -- its number, and the counts that are left
+  n : ℕ
+  n = refusal_of (own_of s) (get_or t.counts 0 0)
 
-  pub stays : ((add_of t s).refusal ≡ 0 → ⊥) → next t s ≡ t
-  stays bad = unfold add_of in simp (ne_eqb (refusal_of (own_of s) (get_or t.counts 0 0)) 0 bad)
+  tabled : InTable n
+  unfolding n
+  tabled =
+      tested InTable (eqb (own_of s) 0)
+      (λ ok. tested InTable (ltb (get_or t.counts 0 0) MOST) {x = 0} {y = 16} (λ few. inl refl) (λ many. inr refl))
+      (λ bad. in_table (opened_of s))
+
+  pub answers : refused_with (add_of t s) ≡ refusal_of (own_of s) (get_or t.counts 0 0)
+  unfolding n
+  answers = unfold add_of in answers_with _ n tabled
+
+  pub leaves : (next t s).counts ≡ last_of (refusal_of (own_of s) (get_or t.counts 0 0)) s t.counts
+  unfolding n
+  leaves = unfold add_of in by_test (eqb n 0) (λ e. simp e) (λ e. simp e)
+
+  pub stays : (refused_with (add_of t s) ≡ 0 → ⊥) → next t s ≡ t
+  stays bad = unfold add_of in simp (ne_eqb (refusal_of (own_of s) (get_or t.counts 0 0)) 0 (λ none. bad (answers ∙ none)))
 
 -- those that are added to sections that are in already
 abbrev rest : List (List ℕ) → List (List ℕ) → List (List ℕ)

@@ -1,10 +1,10 @@
 -- What a tally counts, and where each count stands (02, P10).
 use Rattle.std.specs.Prelude.{ℕ, Bool, true, false, List, ◌∷◌, ◌++◌, length, ◌==◌}
 use Rattle.word.specs.Choice.{both}
-use Rattle.word.specs.Refusal.{COPROCESSOR, NO_ROW}
+use Rattle.word.specs.Refusal.{COPROCESSOR, NO_ROW, refused_with}
 use Rattle.insn.specs.Numbers.{flow_number}
 use Rattle.insn.specs.Roots.{NAMES}
-use Rattle.insn.specs.declared.Decoded.{Decoded}
+use Rattle.insn.specs.Answer.{Decoded, insn_in}
 use Rattle.a32.specs.Decode.{decode_of}
 use Rattle.section.specs.Section.{firsts}
 use Rattle.section.specs.declared.Here.{Here}
@@ -28,15 +28,15 @@ COUNTS = length layout
 
 -- an accepted word has its flow and its root, and one that is refused the refusal's number
 abbrev pub is_accepted : Decoded → Bool
-is_accepted d = d.refusal == 0
+is_accepted d = refused_with d == 0
 
 abbrev pub word_is : Decoded → Kind → Bool
 word_is d sections = false
 word_is d words = true
 word_is d pool = false
-word_is d (refusal n) = d.refusal == n
-word_is d (flow n) = both (is_accepted d) (flow_number d.insn.flow == n)
-word_is d (root n) = both (is_accepted d) (d.insn.name == n)
+word_is d (refusal n) = refused_with d == n
+word_is d (flow n) = both (is_accepted d) (flow_number (insn_in d).flow == n)
+word_is d (root n) = both (is_accepted d) ((insn_in d).name == n)
 
 -- data is counted among the words, and is neither accepted nor refused
 abbrev pub data_is : Kind → Bool

@@ -1,15 +1,15 @@
 -- A tally: counts over the sections of a release (02, P10).
-use Rattle.std.specs.Prelude.{ℕ, ◌+◌, ◌%◌, ◌^◌, Bool, List, [], ◌∷◌, ◌++◌, map, length, take, drop, ◌==◌, nat_lt, slice_index}
+use Rattle.std.specs.Prelude.{ℕ, ◌+◌, ◌%◌, ◌^◌, Bool, List, [], ◌∷◌, ◌++◌, map, length, take, drop, ◌==◌, nat_lt, slice_index, Result, Ok, Err}
 use mathlib.Core.List.{foldl}
 use Rattle.word.specs.Choice.{pick, both}
-use Rattle.word.specs.Refusal.{NO_ROOM, TOO_MANY_SECTIONS}
+use Rattle.word.specs.Refusal.{NO_ROOM, TOO_MANY_SECTIONS, refused_with, refusing}
 use Rattle.insn.specs.Roots.{NAMES}
 use Rattle.section.specs.Section.{opened_of, places_of}
 use Rattle.section.specs.declared.Here.{Here}
 use Rattle.section.specs.declared.Here.TheVariants.{End}
 use Rattle.tally.specs.Kinds.{Kind, layout, COUNTS, is_of, one}
 use Rattle.tally.specs.declared.Tally.{Tally}
-use Rattle.tally.specs.declared.Added.{Added}
+use Rattle.word.specs.declared.refusal.Refusal.{Refusal}
 
 -- how many of what stands at places pass a test
 abbrev pub how_many : (Here → Bool) → List Here → ℕ
@@ -45,7 +45,7 @@ none_of = record { counts = map (λ kind. 0) layout }
 
 -- a section's own refusal, or 0 if it is accepted
 abbrev pub own_of : List ℕ → ℕ
-own_of s = (opened_of s).refusal
+own_of s = refused_with (opened_of s)
 
 -- "16 on adding section 65,537, tested after the section's own", with so many sections before; 0 if there is none
 abbrev pub MOST : ℕ
@@ -67,12 +67,11 @@ plus number counts = plus_on layout number counts
 abbrev pub last_of : ℕ → List ℕ → List ℕ → List ℕ
 last_of n s counts = pick (n == 0) (plus (count_of (s ∷ [])) counts) counts
 
-unfoldable pub add_of : Tally → List ℕ → Added
+unfoldable pub add_of : Tally → List ℕ → Result Tally Refusal
 add_of t s =
-    record {
-      refusal = refusal_of (own_of s) (slice_index t.counts 0);
-      tally = record { counts = last_of (refusal_of (own_of s) (slice_index t.counts 0)) s t.counts };
-    }
+    pick (refusal_of (own_of s) (slice_index t.counts 0) == 0)
+    (Ok (record { counts = plus (count_of (s ∷ [])) t.counts }))
+    (refusing (refusal_of (own_of s) (slice_index t.counts 0)))
 
 -- the same over lent numbers: after the section's own refusals, and before anything is read of them, 10 if they are too few for a tally
 unfoldable pub lent_refusal : ℕ → List ℕ → ℕ
@@ -81,9 +80,13 @@ lent_refusal own counts = pick (both (own == 0) (nat_lt (length counts) COUNTS))
 abbrev pub lent_last : List ℕ → List ℕ → List ℕ
 lent_last s counts = last_of (lent_refusal (own_of s) counts) s counts
 
--- sections added one by one
+-- sections added one by one: a refusal leaves the tally that was there
+abbrev pub left_by : Tally → Result Tally Refusal → Tally
+left_by t (Ok t') = t'
+left_by t (Err r) = t
+
 abbrev pub next : Tally → List ℕ → Tally
-next t s = (add_of t s).tally
+next t s = left_by t (add_of t s)
 
 abbrev pub add_all : Tally → List (List ℕ) → Tally
 add_all t ss = foldl next t ss

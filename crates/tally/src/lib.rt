@@ -2,16 +2,16 @@
 #![tactic(auto)]
 
 ghost use Rattle.std.specs.Prelude.{◌≡◌, ◌+◌, ◌<◌, ◌≤◌, [], ◌∷◌, length};
+ghost use Rattle.word.specs.Refusal.{refused_with};
 ghost use Rattle.insn.specs.Roots.{NAMES};
-ghost use Rattle.section.specs.Section.{opened_of};
 ghost use Rattle.tally.specs.Kinds.{COUNTS};
 ghost use Rattle.tally.specs.Tally.{count_of, none_of, plus, own_of, add_of, lent_refusal, lent_last};
 ghost use Rattle.tally.specs.Steps.{at, one_of, flow_and_root};
 
 use a32::decode;
 use insn::Insn;
-use section::{Here, Opened, is_end, open, read};
-use word::refusal::{NO_ROOM, TOO_MANY_SECTIONS};
+use section::{Here, Section};
+use word::refusal::Refusal;
 
 /// The place of the count of sections.
 pub const SECTIONS: usize = 0;
@@ -38,7 +38,7 @@ pub const COUNTS: usize = 171;
 const MOST_SECTIONS: u64 = 65_536;
 
 /// The counts by their places. Any numbers are a tally.
-#[derive(Clone, Copy)]
+#[derive(Clone, Copy, PartialEq, Eq)]
 pub struct Tally {
     pub counts: [u64; COUNTS],
 }
@@ -54,69 +54,49 @@ impl Tally {
     }
 }
 
-/// A refusal's number beside the tally as it was, or 0 beside the tally with one more section.
-#[derive(Clone, Copy)]
-pub struct Added {
-    pub refusal: u8,
-    pub tally: Tally,
-}
-
-/// Adds a section to a tally.
-pub fn add(tally: Tally, section: &[u8]) -> Added
+/// The tally with one more section. A refusal leaves it as it was.
+pub fn add(tally: Tally, section: &[u8]) -> Result<Tally, Refusal>
     ensures { result ≡ add_of tally section.now }
 {
     let mut counts = tally.counts;
-    let refusal = add_to(&mut counts, section);
-    Added {
-        refusal,
-        tally: Tally { counts },
-    }
+    add_to(&mut counts, section)?;
+    Ok(Tally { counts })
 }
 
-/// Adds a section to the tally at the start of `counts`, and gives 0; or gives a refusal's number.
-pub fn add_to(counts: &mut [u64], section: &[u8]) -> u8
-    ensures value { result ≡ lent_refusal (own_of section.now) counts.old }
+/// Adds a section to the tally at the start of `counts`, or changes nothing.
+pub fn add_to(counts: &mut [u64], section: &[u8]) -> Result<(), Refusal>
+    ensures value { refused_with result ≡ lent_refusal (own_of section.now) counts.old }
     ensures counts_after { counts.new ≡ lent_last section.now counts.old }
 {
-    let opened = open(section);
-    let refusal = refusal(counts, opened.refusal);
-    if refusal == 0 {
-        count_all(counts, section, opened);
-    }
-    refusal
+    let section = Section::open(section)?;
+    check(counts)?;
+    count_all(counts, &section);
+    Ok(())
 }
 
-/// The number that a section is refused with, its own first, or 0.
-fn refusal(counts: &[u64], own: u8) -> u8
-    ensures { result ≡ lent_refusal own counts.now }
+/// Whether the numbers are a tally, and take one more section.
+fn check(counts: &[u64]) -> Result<(), Refusal>
+    ensures { refused_with result ≡ lent_refusal 0 counts.now }
 {
-    if own != 0 {
-        return own;
-    }
     if counts.len() < COUNTS {
-        return NO_ROOM;
+        return Err(Refusal::NoRoom);
     }
     if MOST_SECTIONS <= counts[SECTIONS] {
-        return TOO_MANY_SECTIONS;
+        return Err(Refusal::TooManySections);
     }
-    0
+    Ok(())
 }
 
 /// Counts what stands at each place of a section, and its end.
-fn count_all(counts: &mut [u64], section: &[u8], opened: Opened)
-    requires { (COUNTS ≤ length counts.old) × (opened ≡ opened_of section.now) }
+/// A slice and no array here and below: what is lent may go on behind the counts, and stays.
+fn count_all(counts: &mut [u64], section: &Section<'_>)
+    requires { COUNTS ≤ length counts.old }
     ensures { counts.new ≡ plus (count_of (section.now ∷ [])) counts.old }
 {
-    let mut place = 0;
-    loop {
-        let step = read(section, opened, place);
-        let here = step.here;
+    for here in section.places() {
         count_here(counts, here);
-        if is_end(here) {
-            return;
-        }
-        place = step.after;
     }
+    count_here(counts, Here::End);
 }
 
 fn count_here(counts: &mut [u64], here: Here)
@@ -137,12 +117,10 @@ fn count_word(counts: &mut [u64], word: u32, addr: u32)
     requires { COUNTS ≤ length counts.old }
     ensures { counts.new ≡ plus (one_of (Here.Word word addr)) counts.old }
 {
-    let d = decode(word, addr as u64);
     raise(counts, WORDS);
-    if d.refusal == 0 {
-        count_named(counts, d.insn);
-    } else {
-        raise(counts, REFUSALS + d.refusal as usize);
+    match decode(word, addr as u64) {
+        Ok(insn) => count_named(counts, insn),
+        Err(refusal) => raise(counts, REFUSALS + refusal.number() as usize),
     }
 }
 
@@ -151,8 +129,7 @@ fn count_named(counts: &mut [u64], insn: Insn)
     requires { (COUNTS ≤ length counts.old) × (insn.name < NAMES) }
     ensures { counts.new ≡ plus (flow_and_root insn) counts.old }
 {
-    let flow = insn.flow;
-    raise(counts, FLOWS + flow.number() as usize);
+    raise(counts, FLOWS + insn.flow.number() as usize);
     raise(counts, ROOTS + insn.name as usize);
 }
 
@@ -161,5 +138,5 @@ fn raise(counts: &mut [u64], place: usize)
     requires { (COUNTS ≤ length counts.old) × (place < COUNTS) }
     ensures { counts.new ≡ plus (at place) counts.old }
 {
-    counts[place] = std::num::wrapping_add_u64(counts[place], 1);
+    counts[place] = counts[place].wrapping_add(1);
 }

@@ -33,5 +33,5 @@ hex_of zero n = []
 hex_of (suc k) n = hex_of k (n / 16) ++ hex_digit (n % 16) ∷ []
 
 -- a buffer with a text in it from place `at` on: nothing before the text has changed, and nothing after it
-unfoldable pub written : List ℕ → ℕ → List ℕ → List ℕ
+unfoldable pub written : {A : Type 0} → List A → ℕ → List A → List A
 written out at text = take at out ++ text ++ drop (at + length text) out

@@ -1,4 +1,6 @@
-//! Writers of short texts into a lent buffer. Each writes from place `at` on and gives the place after its text.
+//! Writers of short texts into a lent buffer. Each writes from place `at` on and gives the place after its text. A struct that holds the buffer and
+//! the place would be one parameter for two; but then each writer's contract, and each loop, has to say besides that the buffer in it is still the
+//! one that was lent, so that it is no plainer.
 #![tactic(auto)]
 
 ghost use Rattle.std.specs.Prelude.{◌≡◌, [], ◌∷◌, ◌*◌, ◌<◌, ◌≤◌, ◌^◌};
@@ -7,14 +9,10 @@ ghost use Rattle.text.specs.Fits.{answer_of, last_of};
 ghost use Rattle.text.specs.Put.{Room, Put};
 ghost use Rattle.text.specs.Entry.{word_of, entry_of};
 
-use word::refusal::NO_ROOM;
+use word::refusal::Refusal;
 
-/// What writing gives: the number of bytes written, or the number of a refusal and 0.
-#[derive(Clone, Copy)]
-pub struct Written {
-    pub refusal: u8,
-    pub len: usize,
-}
+/// What writing gives: how much was written, or a refusal.
+pub type Written = Result<usize, Refusal>;
 
 /// Writes all of `text` to the start of `out`, or nothing.
 pub fn put_whole(out: &mut [u8], text: &[u8]) -> Written
@@ -22,55 +20,43 @@ pub fn put_whole(out: &mut [u8], text: &[u8]) -> Written
     ensures out_after { out.new ≡ last_of text.now out.old }
 {
     if text.len() <= out.len() {
-        Written {
-            refusal: 0,
-            len: put(out, 0, text),
-        }
+        Ok(put(out, 0, text))
     } else {
-        Written {
-            refusal: NO_ROOM,
-            len: 0,
-        }
+        Err(Refusal::NoRoom)
     }
 }
 
-/// One byte.
-pub fn put_byte(out: &mut [u8], at: usize, b: u8) -> usize
-    requires { Room out.old at (b ∷ []) }
-    ensures { Put out.old at (b ∷ []) result out.new }
+/// One byte, or one number.
+pub fn put_one<T: Copy>(out: &mut [T], at: usize, x: T) -> usize
+    requires { Room out.old at (x ∷ []) }
+    ensures { Put out.old at (x ∷ []) result out.new }
 {
-    out[at] = b;
+    out[at] = x;
     at + 1
 }
 
 /// All of `text`.
-pub fn put(out: &mut [u8], at: usize, text: &[u8]) -> usize
+pub fn put<T: Copy>(out: &mut [T], at: usize, text: &[T]) -> usize
     requires { Room out.old at text.now }
     ensures { Put out.old at text.now result out.new }
 {
-    let mut i = 0;
-    while i < text.len() {
-        out[at + i] = text[i];
-        i += 1;
-    }
-    at + i
+    let end = at + text.len();
+    out[at..end].copy_from_slice(text);
+    end
 }
 
-/// What stands in `text` before its first space.
+/// What stands in `text` before its first space. A byte is stored as it is passed: to find the end first, and copy then, is slower.
 fn put_word(out: &mut [u8], at: usize, text: &[u8]) -> usize
     requires { Room out.old at (word_of text.now) }
     ensures { Put out.old at (word_of text.now) result out.new }
 {
-    let mut i = 0;
-    while i < text.len() {
-        let b = text[i];
-        if b == b' ' {
+    for (i, b) in text.iter().enumerate() {
+        if *b == b' ' {
             return at + i;
         }
-        out[at + i] = b;
-        i += 1;
+        out[at + i] = *b;
     }
-    at + i
+    at + text.len()
 }
 
 /// Entry `n` of a table whose entries take `width` bytes each, padded with spaces.
@@ -97,10 +83,10 @@ pub fn put_decimal(out: &mut [u8], at: usize, n: u64) -> usize
     ensures { Put out.old at (decimal_of n) result out.new }
 {
     if n < 10 {
-        put_byte(out, at, b'0' + n as u8)
+        put_one(out, at, b'0' + n as u8)
     } else {
         let at = put_decimal(out, at, n / 10);
-        put_byte(out, at, b'0' + (n % 10) as u8)
+        put_one(out, at, b'0' + (n % 10) as u8)
     }
 }
 
@@ -110,7 +96,7 @@ pub fn put_signed(out: &mut [u8], at: usize, v: i64) -> usize
     ensures { Put out.old at (signed_of v) result out.new }
 {
     if v < 0 {
-        let at = put_byte(out, at, b'-');
+        let at = put_one(out, at, b'-');
         put_decimal(out, at, !v as u64 + 1)
     } else {
         put_decimal(out, at, v as u64)
@@ -135,11 +121,9 @@ pub fn put_hex(out: &mut [u8], at: usize, n: u32, digits: usize) -> usize
     ensures { Put out.old at (hex_of digits n) result out.new }
 {
     let mut at = at;
-    let mut left = digits;
-    while 0 < left {
-        left -= 1;
+    for left in (0..digits).rev() {
         let n = n >> (4 * left as u32);
-        at = put_byte(out, at, hex_digit((n % 16) as u8));
+        at = put_one(out, at, hex_digit((n % 16) as u8));
     }
     at
 }

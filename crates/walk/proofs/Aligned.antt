@@ -8,21 +8,21 @@ use lib.Dec.{eqb, ltb}
 use Rattle.word.specs.Choice.{pick, by_test}
 use Rattle.word.specs.Field.{field}
 use Rattle.word.specs.Signed.{sext_of}
-use Rattle.insn.specs.Answer.{accepted, refused}
+use Rattle.insn.specs.Answer.{accepted, refused, insn_in}
 use Rattle.insn.specs.Numbers.{flow_target}
-use Rattle.insn.specs.declared.Decoded.{Decoded}
+use Rattle.insn.specs.Answer.{Decoded}
 use Rattle.insn.specs.declared.Flow.{Flow}
 use Rattle.insn.specs.declared.Insn.{Insn}
 use Rattle.a32_transfer.specs.Branch.{target_from, branch_of}
 use Rattle.a32.specs.Decode.{decode_of}
 use Rattle.a32.proofs.Groups.{Group, unconditional, coprocessor, misc, halfword, dp_reg, multiply, sync, extra_ldst, dp_imm, ldst, ldst_index}
 use Rattle.walk_marks.proofs.Marking.{true_false}
-use Rattle.walk_steps.specs.Leads.{flow_leads}
+use Rattle.walk_steps.specs.Leads.{flow_leads, enters_thumb}
 use Rattle.a32.proofs.Groups.{media, block, branch, reaches, by_group}
 
 -- the target of an answer
 unfoldable pub target_of : Decoded → ℕ
-target_of d = flow_target d.insn.flow
+target_of d = flow_target (insn_in d).flow
 
 -- passes through a choice, and is 0 of a refusal
 through : (t : Bool) (x y : Decoded) → target_of (pick t x y) ≡ pick t (target_of x) (target_of y)
@@ -82,8 +82,8 @@ branch_target w a =
 
 -- so is that of any word whose target does not enter Thumb
 pub aligned : (w a : ℕ) → a % 4 ≡ 0
-    → (flow_leads w (decode_of w a).insn.name (decode_of w a).insn.cond (decode_of w a).insn.flow).thumb ≡ false
-    → flow_target (decode_of w a).insn.flow % 4 ≡ 0
+    → enters_thumb (flow_leads w (insn_in (decode_of w a)).name (insn_in (decode_of w a)).cond (insn_in (decode_of w a)).flow).to ≡ false
+    → flow_target (insn_in (decode_of w a)).flow % 4 ≡ 0
 aligned w a h other =
     by_test (eqb (field w 25 3) 5)
     (λ e.
@@ -93,9 +93,9 @@ aligned w a h other =
     (λ c. plain (rw (reaches w (branch c g) a, branch_target w a) (from_aligned w a h))))
     (λ e. plain (rw (no_target w a e) refl))
   where
-    plain : target_of (decode_of w a) % 4 ≡ 0 → flow_target (decode_of w a).insn.flow % 4 ≡ 0
+    plain : target_of (decode_of w a) % 4 ≡ 0 → flow_target (insn_in (decode_of w a)).flow % 4 ≡ 0
     plain x = unfold target_of in x
 
     thumb : eqb (field w 28 4) 15 ≡ true → field w 25 3 ≡ 5
-        → (flow_leads w (decode_of w a).insn.name (decode_of w a).insn.cond (decode_of w a).insn.flow).thumb ≡ true
+        → enters_thumb (flow_leads w (insn_in (decode_of w a)).name (insn_in (decode_of w a)).cond (insn_in (decode_of w a)).flow).to ≡ true
     thumb c g = rw (reaches w (unconditional (eqb-true (field w 28 4) 15 c)) a) (simp g)

@@ -1,7 +1,7 @@
 -- Steps followed one after the other, and what waits after them. Assumes nothing.
 use mathlib.Core.Path.{◌≡◌, refl, sym, ap, ◌∙◌}
 use mathlib.Core.Bool.{Bool, true, false, not}
-use mathlib.Core.List.{List, ◌++◌}
+use mathlib.Core.List.{List, [], ◌∷◌, ◌++◌}
 use mathlib.Core.Logic.{⊎_elim}
 use Prim.Native.Nat.{ℕ, ◌<◌}
 use native.Mathlib.Omega.{arith}
@@ -11,7 +11,6 @@ use Rattle.walk_marks.specs.Looking.{First}
 use Rattle.walk_marks.specs.Marks.{Marked, mark_all}
 use Rattle.walk_marks.proofs.Looking.{first_is, first_none}
 use Rattle.walk_marks.proofs.Marking.{by_test, true_false, same_or_not, set_new, set_keeps, set_only, stays, all_append, one_more}
-use Rattle.walk_steps.specs.Steps.{only}
 use Rattle.walk.specs.Search.{Among, Followed, Next}
 
 -- a test that was turned round
@@ -32,20 +31,21 @@ unchanged e = record {
   number = λ h. refl;
 }
 
-module _ (m w : List Bool) (b : Bool) (q : ℕ) where
+module _ (m w : List Bool) where
   -- no step
-  pub no_step : b ≡ false → Followed m w (only b q) m w
-  no_step h = unchanged (rw h)
+  pub no_step : Followed m w [] m w
+  no_step = unchanged refl
 
+module _ (m w : List Bool) (q : ℕ) where
   -- a place that is marked already
-  pub known : b ≡ true → Marked m q → Followed m w (only b q) m w
-  known h e = unchanged (rw h (stays m q true e))
+  pub known : Marked m q → Followed m w (q ∷ []) m w
+  known e = unchanged (stays m q true e)
 
   -- a new mark
-  pub marked : {m' w' : List Bool} → b ≡ true → q < length m → q < length w → get_or m q false ≡ false → m' ≡ set m q true → w' ≡ set w q true
-      → Followed m w (only b q) m' w'
-  marked h in-m in-w fresh e e' = record {
-    marks = rw h e;
+  pub marked : {m' w' : List Bool} → q < length m → q < length w → get_or m q false ≡ false → m' ≡ set m q true → w' ≡ set w q true
+      → Followed m w (q ∷ []) m' w'
+  marked in-m in-w fresh e e' = record {
+    marks = e;
     keeps = λ p is. rw e (set_keeps m p q in-m is);
     new = λ p no' is.
         rw e'

@@ -9,6 +9,9 @@ use lib.Dec.{eqb, leb, ltb}
 use lib.ListN.{length, get_or, take}
 use Rattle.word.specs.Choice.{by_test, tested, parts}
 use Rattle.insn.specs.Numbers.{flow_target}
+use Rattle.word.specs.Refusal.{numbered, not_refused, refused_with}
+use Rattle.insn.specs.Answer.{Decoded, insn_in}
+use Rattle.std.specs.Prelude.{Ok, Err, is_some}
 use Rattle.insn.specs.Roots.{name}
 use Rattle.insn.specs.declared.Cond.{Cond}
 use Rattle.insn.specs.declared.Flow.{Flow}
@@ -19,21 +22,20 @@ use Rattle.text.specs.Put.{Put}
 use Rattle.text.proofs.Writing.{front}
 use Rattle.section.specs.Ranges.{is_data}
 use Rattle.section.specs.Section as section
-use Rattle.section.specs.Section.{ranges_of, opened_of, here_of, is_end}
+use Rattle.section.specs.Section.{ranges_of, opened_of, opening_of, here_of, is_end}
 use Rattle.section.specs.declared.Here.{Here}
 use Rattle.section.specs.declared.Here.TheVariants.{Word, Data, End}
 use Rattle.section.specs.declared.Opened.{Opened}
-use Rattle.section.proofs.Accepted.{accepted, opens, refuses}
+use Rattle.section.proofs.Accepted.{accepted, opening, holds_none}
 use Rattle.section.proofs.Places.{something, how_many_lem, before_end}
 use Rattle.walk_marks.specs.Marks.{Marked}
 use Rattle.walk_marks.proofs.Marking.{true_false}
-use Rattle.walk_steps.specs.Leads.{goes_to, flow_leads, answer_leads, here_leads, leads_at}
+use Rattle.walk_steps.specs.Leads.{target_addr, enters_thumb, stop_number, goes_to, flow_leads, answer_leads, here_leads, leads_at}
 use Rattle.walk_steps.specs.Steps.{place_of, is_inside, runs_off, leaves, steps_of}
 use Rattle.walk_steps.specs.declared.Leads.{Leads}
 use Rattle.walk.specs.Report.{three_of, ways_in, ways_out, records_from, records_here, records_before, report_of}
 use Rattle.walk.specs.Reached.{Reached}
-use Rattle.walk.specs.Walk.{refusal_of, answer_of, Reported, Walks}
-use Rattle.walk.specs.declared.Walked.{Walked}
+use Rattle.walk.specs.Walk.{Answer, walked_in, refusal_of, answer_of, Reported, Walks}
 use Rattle.walk.specs.Kept.{NoWayOut, IsPlace, GoesOn, KeptFlow, Kept}
 use Rattle.walk.proofs.Aligned.{aligned}
 use Rattle.walk.proofs.Following.{isset}
@@ -71,17 +73,17 @@ absent false p k v h = refl
 -- no way out of a place
 record Quiet (o : Opened) (p : ℕ) (l : Leads) : Type 0 where
   inside : leaves o l ≡ false
-  a32 : l.thumb ≡ false
+  a32 : (enters_thumb l.to) ≡ false
   direct : l.unknown ≡ false
   on : runs_off o p l ≡ false
-  goes : l.stopped ≡ false
+  goes : (is_some l.stop) ≡ false
 
 module _ (o : Opened) (p : ℕ) (l : Leads) where
   in_threes : Threes (ways_in o p l)
-  in_threes = unfold ways_in in join (join (three true p 0 l.word) (three (leaves o l) p 1 l.target)) (three l.thumb p 2 l.target)
+  in_threes = unfold ways_in in join (join (three true p 0 l.word) (three (leaves o l) p 1 (target_addr l.to))) (three (enters_thumb l.to) p 2 (target_addr l.to))
 
   out_threes : Threes (ways_out o p l)
-  out_threes = unfold ways_out in join (join (three l.unknown p 3 0) (three (runs_off o p l) p 4 0)) (three l.stopped p 5 l.refusal)
+  out_threes = unfold ways_out in join (join (three l.unknown p 3 0) (three (runs_off o p l) p 4 0)) (three (is_some l.stop) p 5 (stop_number l.stop))
 
   from_threes : Threes (records_from o p l)
   from_threes = unfold records_from in join in_threes out_threes
@@ -90,21 +92,21 @@ module _ (o : Opened) (p : ℕ) (l : Leads) where
   unfolding records_from ways_in ways_out
   quiet h =
       let a = three_of true p 0 l.word in
-      let b = three_of (leaves o l) p 1 l.target in
-      let c = three_of l.thumb p 2 l.target in
+      let b = three_of (leaves o l) p 1 (target_addr l.to) in
+      let c = three_of (enters_thumb l.to) p 2 (target_addr l.to) in
       let d = three_of l.unknown p 3 0 in
       let e = three_of (runs_off o p l) p 4 0 in
-      let f = three_of l.stopped p 5 l.refusal in
-      let ab = join (three true p 0 l.word) (three (leaves o l) p 1 l.target) in
+      let f = three_of (is_some l.stop) p 5 (stop_number l.stop) in
+      let ab = join (three true p 0 l.word) (three (leaves o l) p 1 (target_addr l.to)) in
       let de = join (three l.unknown p 3 0) (three (runs_off o p l) p 4 0) in
-      let abc = first (d ++ e ++ f) (join ab (three l.thumb p 2 l.target)) h in
-      let def = second (d ++ e ++ f) (join ab (three l.thumb p 2 l.target)) h in
+      let abc = first (d ++ e ++ f) (join ab (three (enters_thumb l.to) p 2 (target_addr l.to))) h in
+      let def = second (d ++ e ++ f) (join ab (three (enters_thumb l.to) p 2 (target_addr l.to))) h in
       record {
-        inside = absent (leaves o l) p 0 l.target (second b (three true p 0 l.word) (first c ab abc));
-        a32 = absent l.thumb p 1 l.target (second c ab abc);
+        inside = absent (leaves o l) p 0 (target_addr l.to) (second b (three true p 0 l.word) (first c ab abc));
+        a32 = absent (enters_thumb l.to) p 1 (target_addr l.to) (second c ab abc);
         direct = absent l.unknown p 2 0 (first e (three l.unknown p 3 0) (first f de def));
         on = absent (runs_off o p l) p 3 0 (second e (three l.unknown p 3 0) (first f de def));
-        goes = absent l.stopped p 4 l.refusal (second f de def);
+        goes = absent (is_some l.stop) p 4 (stop_number l.stop) (second f de def);
       }
 
 -- a word's address is a multiple of 4
@@ -124,7 +126,7 @@ module _ (o : Opened) (base : o.base % 4 ≡ 0) (p : ℕ) where
   goes_on_lem : (l : Leads) → l.on ≡ true → Quiet o p l → GoesOn o p
   goes_on_lem l e q = ltb-true (p + 1) o.count (isset (ltb (p + 1) o.count) (rw e at q.on))
 
-  kept_flow : (w root : ℕ) (cond : Cond) (flow : Flow) → ((flow_leads w root cond flow).thumb ≡ false → flow_target flow % 4 ≡ 0)
+  kept_flow : (w root : ℕ) (cond : Cond) (flow : Flow) → (enters_thumb (flow_leads w root cond flow).to ≡ false → flow_target flow % 4 ≡ 0)
       → Quiet o p (flow_leads w root cond flow) → KeptFlow o p root cond flow
   kept_flow w root cond Next four q = goes_on_lem (flow_leads w root cond Next) refl q
   kept_flow w root cond (Branch to) four q = is_place w to false false (four q.a32) q
@@ -140,32 +142,34 @@ module _ (o : Opened) (base : o.base % 4 ≡ 0) (p : ℕ) where
   kept_flow w root cond Return four q = λ h. goes_on_lem (flow_leads w root cond Return) (lt-ltb cond.0 14 h) q
   kept_flow w root cond Trap four q = λ h. goes_on_lem (flow_leads w root cond Trap) (lt-ltb cond.0 14 h) q
 
+  kept_word : (d : Decoded) (w : ℕ)
+      → (enters_thumb (flow_leads w (insn_in d).name (insn_in d).cond (insn_in d).flow).to ≡ false → flow_target (insn_in d).flow % 4 ≡ 0)
+      → Quiet o p (answer_leads w d) → (refused_with d ≡ 0) × KeptFlow o p (insn_in d).name (insn_in d).cond (insn_in d).flow
+  kept_word (Ok i) w four q = (refl, kept_flow w i.name i.cond i.flow four q)
+  kept_word (Err r) w four q = true_false q.goes
+
   kept : (here : Here) → is_end here ≡ false → AlignedAt here → Quiet o p (here_leads here) → Kept o p here
-  kept (Word w a) some four q =
-      let d = decode_of w a in
-      by_test (eqb d.refusal 0)
-      (λ e. (eqb-true d.refusal 0 e, kept_flow w d.insn.name d.insn.cond d.insn.flow (aligned w a four) (rw e at q)))
-      (λ e. true_false (let stopped : (answer_leads w d).stopped ≡ true = rw e in sym stopped ∙ q.goes))
+  kept (Word w a) some four q = kept_word (decode_of w a) w (aligned w a four) q
   kept (Data w a) some four q = true_false q.goes
   kept End some four q = true_false some
 
 -- a section that has a place is accepted, so its base is a multiple of 4, and each address is one
-base_four : (s : List ℕ) (p : ℕ) → p < (opened_of s).count → (opened_of s).base % 4 ≡ 0
+base_four : (s : List ℕ) (p : ℕ) → p < (opening_of s).count → (opening_of s).base % 4 ≡ 0
 base_four s p h =
     by_test (eqb (section.refusal_of s) 0)
-    (λ e. let ok = eqb-true (section.refusal_of s) 0 e in rw (opens s ok) (accepted s ok).aligned)
+    (λ e. let ok = eqb-true (section.refusal_of s) 0 e in rw (opening s ok) (accepted s ok).aligned)
     (λ e.
-    let empty = ap (λ (o : Opened). o.count) (refuses s (eqb-false (section.refusal_of s) 0 e)) in
+    let empty = ap (λ (o : Opened). o.count) (holds_none s (eqb-false (section.refusal_of s) 0 e)) in
     absurd (let z : ⊥ = omega (arith, empty, h) in z))
 
-here_four : (s : List ℕ) (p : ℕ) → p < (opened_of s).count → AlignedAt (here_of s p)
+here_four : (s : List ℕ) (p : ℕ) → p < (opening_of s).count → AlignedAt (here_of s p)
 here_four s p h =
     rw (before_end s {place = p} (omega (arith, how_many_lem s)))
-    (tested AlignedAt (is_data (ranges_of s (opened_of s).ranges) p) (λ e. tt) (λ e. omega (arith, base_four s p h)))
+    (tested AlignedAt (is_data (ranges_of s (opening_of s).ranges) p) (λ e. tt) (λ e. omega (arith, base_four s p h)))
 
 module _ (s : List ℕ) (m : List Bool) where
   here_threes : (p : ℕ) (b : Bool) → get_or m p false ≡ b → Threes (records_here s m p)
-  here_threes p true e = rw (here_is s m p refl refl e) (from_threes (opened_of s) p (leads_at s p))
+  here_threes p true e = rw (here_is s m p refl refl e) (from_threes (opening_of s) p (leads_at s p))
   here_threes p false e = rw (here_not s m p e) none
 
   before_threes : (p : ℕ) → Threes (records_before s m p)
@@ -180,13 +184,13 @@ module _ (s : List ℕ) (m : List Bool) where
       (λ e. rw (eqb-true p n e) (second (records_here s m n) (before_threes n) q))
       (λ e. at_place n p (omega (arith, eqb-false p n e)) (first (records_here s m n) (before_threes n) q))
 
-  kept_place : (p : ℕ) → p < (opened_of s).count → Marked m p → NoWayOut (report_of s m) → Kept (opened_of s) p (here_of s p)
+  kept_place : (p : ℕ) → p < (opening_of s).count → Marked m p → NoWayOut (report_of s m) → Kept (opening_of s) p (here_of s p)
   unfolding report_of leads_at
   kept_place p h marked q =
-      let here = at_place (opened_of s).count p h q in
-      let stands : is_end (here_of s p) ≡ false = rw (before_end s {place = p} (omega (arith, how_many_lem s))) (something s (opened_of s) p) in
-      kept (opened_of s) (base_four s p h) p (here_of s p) stands (here_four s p h)
-      (quiet (opened_of s) p (leads_at s p) (rw (here_is s m p refl refl marked) at here))
+      let here = at_place (opening_of s).count p h q in
+      let stands : is_end (here_of s p) ≡ false = rw (before_end s {place = p} (omega (arith, how_many_lem s))) (something s (opening_of s) p) in
+      kept (opening_of s) (base_four s p h) p (here_of s p) stands (here_four s p h)
+      (quiet (opening_of s) p (leads_at s p) (rw (here_is s m p refl refl marked) at here))
 
   -- a report's numbers are three for each record
   count : {l : List ℕ} → Threes l → (k : ℕ) × (length l ≡ 3 * k)
@@ -195,45 +199,45 @@ module _ (s : List ℕ) (m : List Bool) where
 
   all_threes : 3 * (length (report_of s m) / 3) ≡ length (report_of s m)
   all_threes =
-      let t : Threes (report_of s m) = unfold report_of in before_threes (opened_of s).count in
+      let t : Threes (report_of s m) = unfold report_of in before_threes (opening_of s).count in
       let (k, e) = count t in omega (arith, e)
 
 -- an entry that is not refused is a place
-entry_inside : (s : List ℕ) (entry : ℕ) → refusal_of s entry ≡ 0 → entry < (opened_of s).count
+entry_inside : (s : List ℕ) (entry : ℕ) → refusal_of s entry ≡ 0 → entry < (opening_of s).count
 entry_inside s entry ok =
-    by_test (eqb (opened_of s).refusal 0)
-    (λ e. by_test (ltb entry (opened_of s).count)
-    (λ f. ltb-true entry (opened_of s).count f)
+    by_test (eqb (refused_with (opened_of s)) 0)
+    (λ e. by_test (ltb entry (opening_of s).count)
+    (λ f. ltb-true entry (opening_of s).count f)
     (λ f. absurd (let z : ◌≡◌ {A = ℕ} 13 0 = simp (e, f) at ok in let no' : ⊥ = omega (arith, z) in no')))
-    (λ e. absurd (eqb-false (opened_of s).refusal 0 e (simp e at ok)))
+    (λ e. absurd (eqb-false (refused_with (opened_of s)) 0 e (simp e at ok)))
 
-module _ {s : List ℕ} {entry : ℕ} {out : List ℕ} {r : Walked} {last : List ℕ} where
+module _ {s : List ℕ} {entry : ℕ} {out : List ℕ} {r : Answer} {last : List ℕ} where
   -- what a walk that is not refused leaves at the buffer's start is the report
-  left_report : (found : Reported s entry out r last) → r.refusal ≡ 0 → take (3 * r.records) last ≡ report_of s found.marks
+  left_report : (found : Reported s entry out r last) → refused_with r ≡ 0 → take (3 * (walked_in r).records) last ≡ report_of s found.marks
   unfolding answer_of last_of
   left_report found ok =
       let report = report_of s found.marks in
       by_test (leb (length report) (length out))
       (λ e.
-      let same : r.records ≡ length report / 3 = ap (λ (x : Walked). x.records) (simp e at found.answer) in
+      let same : (walked_in r).records ≡ length report / 3 = ap (λ (x : Answer). (walked_in x).records) (simp e at found.answer) in
       let put : Put out 0 report (length report) last = record { ends = omega arith; holds = simp e at found.left } in
       rw (same, all_threes s found.marks) (front put))
       (λ e.
-      let ten : r.refusal ≡ 10 = ap (λ (x : Walked). x.refusal) (simp e at found.answer) in
+      let ten : refused_with r ≡ 10 = ap refused_with (simp e at found.answer) in
       absurd (let z : ⊥ = omega (arith, ten, ok) in z))
 
   -- "Is there a way out?": if a walk is not refused, and each of its records is of kind 0, then wherever a chain leads from the entry stands a word
   -- that is accepted, and each way that it goes stays in the section
-  pub no_way_out : Walks s entry out r last → r.refusal ≡ 0 → NoWayOut (take (3 * r.records) last)
-      → (p : ℕ) → Reached (steps_of s) entry p → Kept (opened_of s) p (here_of s p)
+  pub no_way_out : Walks s entry out r last → refused_with r ≡ 0 → NoWayOut (take (3 * (walked_in r).records) last)
+      → (p : ℕ) → Reached (steps_of s) entry p → Kept (opening_of s) p (here_of s p)
   no_way_out walks ok quiet p reached =
       by_test (eqb (refusal_of s entry) 0)
       (λ e.
       let ok' = eqb-true (refusal_of s entry) 0 e in
       let found = walks.reported ok' in
-      let below = stays_inside (steps_of s) (opened_of s).count (steps_inside s) entry p reached (entry_inside s entry ok') in
+      let below = stays_inside (steps_of s) (opening_of s).count (steps_inside s) entry p reached (entry_inside s entry ok') in
       kept_place s found.marks p below ((found.exact p).1 reached) (rw (left_report found ok) at quiet))
       (λ e.
       let some = eqb-false (refusal_of s entry) 0 e in
-      let same = ap (λ (x : Walked). x.refusal) (walks.refused (omega (arith, some))).0 in
-      absurd (some (sym same ∙ ok)))
+      let same = ap refused_with (walks.refused (omega (arith, some))).0 in
+      not_refused (numbered (refusal_of s entry)) (sym same ∙ ok))

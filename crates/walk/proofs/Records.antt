@@ -7,18 +7,21 @@ use native.Mathlib.Numerals.{add-one}
 use native.Mathlib.Omega.{arith}
 use lib.ListN.{length, get_or, length-append}
 use lib.Dec.{eqb}
-use Rattle.word.specs.Choice.{tested}
 use Rattle.insn.specs.Roots.{name}
 use Rattle.insn.specs.declared.Cond.{Cond}
 use Rattle.insn.specs.declared.Flow.{Flow}
 use Rattle.insn.specs.declared.Flow.TheVariants.{Next, Branch, CondBranch, IndirectBranch, Call, IndirectCall, Return, Trap}
 use Rattle.a32.specs.Decode.{decode_of}
-use Rattle.section.specs.Section.{opened_of, here_of}
+use Rattle.section.specs.Section.{opening_of, here_of}
 use Rattle.section.specs.declared.Here.{Here}
-use Rattle.section.specs.declared.Here.TheVariants.{Word, Data, End}
+use Rattle.section.specs.declared.Here.TheVariants.{Word, Data as DataHere, End}
 use Rattle.section.specs.declared.Opened.{Opened}
 use Rattle.section.proofs.Accepted.{opened}
-use Rattle.walk_steps.specs.Leads.{goes_on, goes_to, stops, perhaps, flow_leads, here_leads, leads_at}
+use Rattle.walk_steps.specs.Leads.{goes_on, goes_to, stops, perhaps, flow_leads, answer_leads, here_leads, leads_at, enters_thumb}
+use Rattle.walk_steps.specs.declared.Stop.{Stop}
+use Rattle.walk_steps.specs.declared.Stop.TheVariants.{Data, Refused}
+use Rattle.insn.specs.Answer.{Decoded}
+use Rattle.std.specs.Prelude.{Ok, Err, is_some}
 use Rattle.walk_steps.specs.Steps.{runs_off, leaves}
 use Rattle.walk_steps.specs.declared.Leads.{Leads}
 use Rattle.walk.specs.Report.{three_of, three, ways_in, ways_out, records_from, records_here, records_before, report_of}
@@ -34,15 +37,15 @@ at_most_three false = omega arith
 
 module _ (o : Opened) (p : ℕ) (l : Leads) where
   pub length_records : length (records_from o p l)
-      ≡ 3 + three (leaves o l) + three l.thumb + three l.unknown + three (runs_off o p l) + three l.stopped
+      ≡ 3 + three (leaves o l) + three (enters_thumb l.to) + three l.unknown + three (runs_off o p l) + three (is_some l.stop)
   length_records = unfold records_from ways_in ways_out in
       simp (
         length-append,
         length_three (leaves o l),
-        length_three l.thumb,
+        length_three (enters_thumb l.to),
         length_three l.unknown,
         length_three (runs_off o p l),
-        length_three l.stopped,
+        length_three (is_some l.stop),
       )
       (omega arith)
 
@@ -61,8 +64,8 @@ module _ (o : Opened) (p : ℕ) where
       let l = goes_to w on thumb target in
       omega (arith, length_records o p l, at_most_three (leaves o l), at_most_three thumb, at_most_three (runs_off o p l))
 
-  few_stops : (w n : ℕ) → Few (stops w n)
-  few_stops w n = omega (arith, length_records o p (stops w n))
+  few_stops : (w : ℕ) (stop : Stop) → Few (stops w stop)
+  few_stops w stop = omega (arith, length_records o p (stops w stop))
 
   few_flow : (w root : ℕ) (cond : Cond) (flow : Flow) → Few (flow_leads w root cond flow)
   few_flow w root cond Next = few_on w true false
@@ -74,11 +77,13 @@ module _ (o : Opened) (p : ℕ) where
   few_flow w root cond Return = few_on w (perhaps cond) false
   few_flow w root cond Trap = few_on w (perhaps cond) false
 
+  few_answer : (w : ℕ) (d : Decoded) → Few (answer_leads w d)
+  few_answer w (Ok i) = few_flow w i.name i.cond i.flow
+  few_answer w (Err r) = few_stops w (Refused r)
+
   few_leads : (here : Here) → Few (here_leads here)
-  few_leads (Word w a) =
-      let d = decode_of w a in
-      tested Few (eqb d.refusal 0) (λ e. few_flow w d.insn.name d.insn.cond d.insn.flow) (λ e. few_stops w d.refusal)
-  few_leads (Data w a) = few_stops w 0
+  few_leads (Word w a) = few_answer w (decode_of w a)
+  few_leads (DataHere w a) = few_stops w Data
   few_leads End = few_on 0 false false
 
   pub few_records : (s : List ℕ) → Few (leads_at s p)
@@ -87,14 +92,14 @@ module _ (o : Opened) (p : ℕ) where
 module _ (s : List ℕ) (m : List Bool) where
   -- the records of a place that is marked, and of one that is not
   module _ (p : ℕ) where
-    pub here_is : {o : Opened} {l : Leads} → o ≡ opened_of s → l ≡ leads_at s p → get_or m p false ≡ true → records_here s m p ≡ records_from o p l
+    pub here_is : {o : Opened} {l : Leads} → o ≡ opening_of s → l ≡ leads_at s p → get_or m p false ≡ true → records_here s m p ≡ records_from o p l
     here_is e f marked = unfold records_here in rw (marked, e, f)
 
     pub here_not : get_or m p false ≡ false → records_here s m p ≡ []
     here_not left = unfold records_here in rw left
 
     few_here : (b : Bool) → get_or m p false ≡ b → length (records_here s m p) ≤ 12
-    few_here true e = omega (arith, ap length (here_is refl refl e), few_records (opened_of s) p s)
+    few_here true e = omega (arith, ap length (here_is refl refl e), few_records (opening_of s) p s)
     few_here false e = omega (arith, ap length (here_not e))
 
   -- those of one place more
@@ -113,10 +118,10 @@ module _ (s : List ℕ) (m : List Bool) where
       rw e (omega (arith, grows p k, length-append (records_before s m (p + k)) (records_here s m (p + k))))
 
   -- those of all places
-  pub report_at : {o : Opened} {p : ℕ} → o ≡ opened_of s → p ≡ o.count → records_before s m p ≡ report_of s m
+  pub report_at : {o : Opened} {p : ℕ} → o ≡ opening_of s → p ≡ o.count → records_before s m p ≡ report_of s m
   report_at e f = unfold report_of in rw (f, e)
 
-  pub fits_here : {o : Opened} {p : ℕ} → o ≡ opened_of s → p < o.count
+  pub fits_here : {o : Opened} {p : ℕ} → o ≡ opening_of s → p < o.count
       → length (records_before s m p) + length (records_here s m p) ≤ length (report_of s m)
   fits_here {o} {p} e h =
       let k = o.count - (p + 1) in
@@ -125,4 +130,4 @@ module _ (s : List ℕ) (m : List Bool) where
 
   -- a section has at most 4,096 places: so many numbers take every report
   pub enough : length (report_of s m) ≤ 49152
-  enough = omega (arith, ap length (report_at refl refl), few_before (opened_of s).count, (opened s).few)
+  enough = omega (arith, ap length (report_at refl refl), few_before (opening_of s).count, (opened s).few)

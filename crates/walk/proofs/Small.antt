@@ -10,13 +10,12 @@ use Rattle.word.specs.Choice.{by_test}
 use Rattle.walk_marks.specs.Marks.{how_many}
 use Rattle.walk_marks.proofs.Marking.{count_below}
 use Rattle.walk.specs.Report.{report_of}
-use Rattle.walk.specs.Walk.{refused_by, refusal_of, answer_of, Reported, Walks}
-use Rattle.walk.specs.declared.Walked.{Walked}
+use Rattle.walk.specs.Walk.{Answer, walked_in, refused_by, refusal_of, answer_of, Reported, Walks}
 use Rattle.walk.proofs.Records.{enough}
 
 -- four records for each of 4,096 places, and as many words
-abbrev pub Small : Walked → Type 0
-Small r = (r.records ≤ 16384) × (r.words ≤ 4096)
+abbrev pub Small : Answer → Type 0
+Small r = ((walked_in r).records ≤ 16384) × ((walked_in r).words ≤ 4096)
 
 none : (n : ℕ) → Small (refused_by n)
 none n = (omega arith, omega arith)
@@ -25,7 +24,7 @@ answered : (report out : List ℕ) (words : ℕ) → length report ≤ 49152 →
 answered report out words few most = unfold answer_of in
     by_test (leb (length report) (length out)) (λ e. simp e (omega arith, most)) (λ e. simp e (none 10))
 
-pub small : {s : List ℕ} {entry : ℕ} {out : List ℕ} {r : Walked} {last : List ℕ} → Walks s entry out r last → Small r
+pub small : {s : List ℕ} {entry : ℕ} {out : List ℕ} {r : Answer} {last : List ℕ} → Walks s entry out r last → Small r
 small {s} {entry} {out} {r} walks =
     by_test (eqb (refusal_of s entry) 0)
     (λ e. reported (walks.reported (eqb-true (refusal_of s entry) 0 e)))

@@ -11,11 +11,10 @@ use Rattle.text.specs.Fits.{last_of}
 use Rattle.walk_marks.specs.Marks.{how_many}
 use Rattle.walk_marks.proofs.Marking.{same_marks}
 use Rattle.walk.specs.Report.{report_of}
-use Rattle.walk.specs.Walk.{refusal_of, answer_of, Reported, Walks}
-use Rattle.walk.specs.declared.Walked.{Walked}
+use Rattle.walk.specs.Walk.{Answer, refusal_of, answer_of, Reported, Walks}
 use Rattle.walk.proofs.walk.Reads as walk
 
-module _ {s : List ℕ} {entry : ℕ} {out : List ℕ} {r r' : Walked} {last last' : List ℕ} where
+module _ {s : List ℕ} {entry : ℕ} {out : List ℕ} {r r' : Answer} {last last' : List ℕ} where
   -- what is reached has one set of marks, and these have one report
   reported_only : Reported s entry out r last → Reported s entry out r' last' → (r ≡ r') × (last ≡ last')
   reported_only p q =

@@ -1,5 +1,7 @@
 -- What a report without a way out says (02, P7, "Is there a way out?").
 use Rattle.std.specs.Prelude.{◌≡◌, List, [], ◌∷◌, ℕ, ◌+◌, ◌*◌, ◌<◌}
+use Rattle.word.specs.Refusal.{refused_with}
+use Rattle.insn.specs.Answer.{insn_in}
 use Rattle.insn.specs.Roots.{name}
 use Rattle.insn.specs.declared.Cond.{Cond}
 use Rattle.insn.specs.declared.Flow.{Flow}
@@ -36,6 +38,8 @@ KeptFlow o p root cond Trap = (cond.0 < 14 → GoesOn o p)
 
 -- what stands at place p is a word that is accepted, with such an instruction
 abbrev pub Kept : Opened → ℕ → Here → Type 0
-Kept o p (Word w a) = ((decode_of w a).refusal ≡ 0) × KeptFlow o p (decode_of w a).insn.name (decode_of w a).insn.cond (decode_of w a).insn.flow
+Kept o p (Word w a) =
+    (refused_with (decode_of w a) ≡ 0)
+    × KeptFlow o p (insn_in (decode_of w a)).name (insn_in (decode_of w a)).cond (insn_in (decode_of w a)).flow
 Kept o p (Data w a) = ⊥
 Kept o p End = ⊥

@@ -21,10 +21,6 @@ Follows reached waiting qs reached' waiting' = Followed (marks_of reached) (mark
 abbrev pub Takes : List ℕ → List ℕ → ℕ → List ℕ → List ℕ → List ℕ → Type 0
 Takes reached waiting p qs reached' waiting' = Followed (marks_of reached) (set (marks_of waiting) p false) qs (marks_of reached') (marks_of waiting')
 
--- each of them keeps marks for as many places as a section can have, 4,096
-abbrev pub Held : List ℕ → List ℕ → Type 0
-Held reached waiting = (length reached ≡ 128) × (length waiting ≡ 128)
-
 -- r is a place that waits, or behind all of them where none does
 pub record Next (w : List Bool) (r : ℕ) : Type 0 where
   pub waits : r < length w → Marked w r

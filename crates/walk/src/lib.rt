@@ -1,104 +1,127 @@
 //! The walk through a section from an entry place, and its report.
 #![tactic(auto)]
 
-ghost use Rattle.std.specs.Prelude.{◌≡◌, true, false, ◌+◌, ◌≤◌, ◌<◌, length, set, replicate};
+ghost use Rattle.std.specs.Prelude.{◌≡◌, true, false, ◌+◌, ◌≤◌, ◌<◌, IfSome, is_some, length, set, replicate};
 ghost use Rattle.text.specs.Fits.{last_of};
 ghost use Rattle.text.specs.Put.{Room, Put};
-ghost use Rattle.section.specs.Section.{opened_of};
+ghost use Rattle.section.specs.Section.{opening_of};
 ghost use Rattle.walk_marks.specs.Marks.{how_many, marks_of};
-ghost use Rattle.walk_steps.specs.Steps.{only, steps_from, steps_of};
+ghost use Rattle.walk_steps.specs.Leads.{leads_at};
+ghost use Rattle.walk_steps.specs.Steps.{listed, steps_from, steps_of};
 ghost use Rattle.walk.specs.Reached.{Exact};
-ghost use Rattle.walk.specs.Search.{Follows, Takes, Held, Next};
+ghost use Rattle.walk.specs.Search.{Follows, Takes, Next};
 ghost use Rattle.walk.specs.Report.{three_of, three, ways_in, ways_out, records_from, records_here, report_of};
-ghost use Rattle.walk.specs.Walk.{refused_by, answer_of, Reported, Walks};
+ghost use Rattle.walk.specs.Walk.{answer_of, Reported, Walks};
 
-use section::{Opened, open};
+use section::{Opened, Section};
 use walk_marks::{first, get, set, unset};
-use walk_steps::{Leads, leads_at, leaves, place_of, runs_off, steps_on, steps_to};
-use word::refusal::{NO_PLACE, NO_ROOM};
+use walk_steps::{Leads, here_leads, leaves, next_place, runs_off, target_place};
+use word::refusal::Refusal;
 
-/// Marks the place `q`, if there is such a step. Where the mark is new, the place waits to be taken up.
-fn follow(reached: &mut [u32], waiting: &mut [u32], step: bool, q: usize)
-    requires { Held reached.old waiting.old × (step ≡ true → q < 4096) }
-    ensures { Follows reached.old waiting.old (only step q) reached.new waiting.new }
+/// Where what stands at a place leads.
+#[tactic(auto, unfolding(walk_steps::specs::Leads::leads_at))]
+fn leads_at(section: &Section<'_>, place: usize) -> Leads
+    ensures { result ≡ leads_at section.now place }
 {
-    if !step {
-        return;
+    here_leads(section.at(place))
+}
+
+/// A mark for each place that a section can have, on those that are reached, and on what of these is still to be taken up, and so waits.
+#[derive(Drop)]
+struct Search {
+    reached: [u32; 128],
+    waiting: [u32; 128],
+    ghost full: { (length reached ≡ 128) × (length waiting ≡ 128) },
+}
+
+impl Search {
+    fn new() -> Search
+        ensures { (marks_of result.reached ≡ replicate 4096 false) × (marks_of result.waiting ≡ replicate 4096 false) }
+    {
+        Search {
+            reached: [0; 128],
+            waiting: [0; 128],
+        }
     }
-    if get(reached, q) {
-        return;
+
+    /// Marks the place of a step, if there is one. Where the mark is new, the place waits to be taken up.
+    fn follow(&mut self, step: Option<usize>)
+        requires { IfSome step (λ q. q < 4096) }
+        ensures { Follows self.old.reached self.old.waiting (listed step) self.new.reached self.new.waiting }
+    {
+        let Some(q) = step else {
+            return;
+        };
+        if get(&self.reached, q) {
+            return;
+        }
+        set(&mut self.reached, q);
+        set(&mut self.waiting, q);
     }
-    set(reached, q);
-    set(waiting, q);
-}
 
-/// The same for where `leads` leads from `place`.
-fn follow_both(reached: &mut [u32], waiting: &mut [u32], opened: Opened, place: usize, leads: Leads)
-    requires { Held reached.old waiting.old × (place < opened.count) × (opened.count ≤ 4096) }
-    ensures { Follows reached.old waiting.old (steps_from opened place leads) reached.new waiting.new }
-{
-    let on = steps_on(opened, place, leads);
-    follow(reached, waiting, on, place + 1);
-    let to = steps_to(opened, leads);
-    let target = place_of(opened, leads.target);
-    follow(reached, waiting, to, target);
-}
-
-/// Takes up the word at `place`, which waits no longer.
-fn take_up(reached: &mut [u32], waiting: &mut [u32], section: &[u8], opened: Opened, place: usize)
-    requires held { Held reached.old waiting.old × (place < opened.count) × (opened.count ≤ 4096) }
-    requires opened_value { opened ≡ opened_of section.now }
-    ensures { Takes reached.old waiting.old place (steps_of section.now place) reached.new waiting.new }
-{
-    unset(waiting, place);
-    let leads = leads_at(section, opened, place);
-    follow_both(reached, waiting, opened, place, leads);
-}
-
-/// A place that waits: the first from `place` on, else the first of all. That takes at most 256 looks, one for each number that is zero and one for
-/// each place of one that is not.
-fn next(waiting: &[u32], place: usize) -> usize
-    requires { (length waiting.now ≡ 128) × (place < 4096) }
-    ensures { Next (marks_of waiting.now) result }
-{
-    let at = first(waiting, place);
-    if at < 4096 { at } else { first(waiting, 0) }
-}
-
-/// At first the entry is reached, and waits alone.
-fn begin(reached: &mut [u32], waiting: &mut [u32], entry: usize)
-    requires { Held reached.old waiting.old × (entry < 4096) }
-    ensures reached_after { marks_of reached.new ≡ set (marks_of reached.old) entry true }
-    ensures waiting_after { marks_of waiting.new ≡ set (marks_of waiting.old) entry true }
-{
-    set(reached, entry);
-    set(waiting, entry);
-}
-
-/// Marks the places that are reached from `entry`, and says how many words it took up: one in each turn, and each once.
-fn search(
-    reached: &mut [u32],
-    waiting: &mut [u32],
-    section: &[u8],
-    opened: Opened,
-    entry: usize,
-) -> usize
-    requires opened_value { (opened ≡ opened_of section.now) × (opened.count ≤ 4096) × (entry < opened.count) }
-    requires held { Held reached.old waiting.old × (marks_of reached.old ≡ replicate 4096 false) × (marks_of waiting.old ≡ replicate 4096 false) }
-    ensures { Exact (steps_of section.now) entry (marks_of reached.new) × (result ≡ how_many (marks_of reached.new)) }
-{
-    begin(reached, waiting, entry);
-    let mut at = entry;
-    let mut words = 0;
-    while at < 4096 {
-        take_up(reached, waiting, section, opened, at);
-        words += 1;
-        at = next(waiting, at);
+    /// The same for where `leads` leads from `place`.
+    fn follow_both(&mut self, opened: Opened, place: usize, leads: Leads)
+        requires { (place < opened.count) × (opened.count ≤ 4096) }
+        ensures { Follows self.old.reached self.old.waiting (steps_from opened place leads) self.new.reached self.new.waiting }
+    {
+        self.follow(next_place(opened, place, leads));
+        self.follow(target_place(opened, leads));
     }
-    words
+
+    /// Takes up the word at `place`, which waits no longer.
+    fn take_up(&mut self, section: &Section<'_>, place: usize)
+        requires { place < (opening_of section.now).count }
+        ensures { Takes self.old.reached self.old.waiting place (steps_of section.now place) self.new.reached self.new.waiting }
+    {
+        unset(&mut self.waiting, place);
+        let leads = leads_at(section, place);
+        self.follow_both(section.opened(), place, leads);
+    }
+
+    /// A place that waits: the first from `place` on, else the first of all. That takes at most 256 looks, one for each number that is zero and one
+    /// for each place of one that is not. Behind the last place where none waits, as `first` of `walk_marks` gives it.
+    fn next(&self, place: usize) -> usize
+        requires { place < 4096 }
+        ensures { Next (marks_of self.now.waiting) result }
+    {
+        let at = first(&self.waiting, place);
+        if at < 4096 {
+            at
+        } else {
+            first(&self.waiting, 0)
+        }
+    }
+
+    /// At first the entry is reached, and waits alone.
+    fn begin(&mut self, entry: usize)
+        requires { entry < 4096 }
+        ensures reached_after { marks_of self.new.reached ≡ set (marks_of self.old.reached) entry true }
+        ensures waiting_after { marks_of self.new.waiting ≡ set (marks_of self.old.waiting) entry true }
+    {
+        set(&mut self.reached, entry);
+        set(&mut self.waiting, entry);
+    }
+
+    /// Marks the places that are reached from `entry`, and says how many words it took up: one in each turn, and each once.
+    fn run(&mut self, section: &Section<'_>, entry: usize) -> usize
+        requires entry_inside { entry < (opening_of section.now).count }
+        requires none { (marks_of self.old.reached ≡ replicate 4096 false) × (marks_of self.old.waiting ≡ replicate 4096 false) }
+        ensures { Exact (steps_of section.now) entry (marks_of self.new.reached) × (result ≡ how_many (marks_of self.new.reached)) }
+    {
+        self.begin(entry);
+        let mut at = entry;
+        let mut words = 0;
+        // the marks say which place is next, so there is no range to go through
+        while at < 4096 {
+            self.take_up(section, at);
+            words += 1;
+            at = self.next(at);
+        }
+        words
+    }
 }
 
-/// One record, if it is there.
+/// One record, if it is there. Six of them stand in a row; an `Option` of a value would be made to be taken apart at once, since three have 0 there.
 fn put_three(out: &mut [u32], at: usize, there: bool, place: usize, kind: u32, value: u32) -> usize
     requires { Room out.old at (three_of there place kind value) × (place < 4096) }
     ensures { Put out.old at (three_of there place kind value) result out.new }
@@ -118,9 +141,10 @@ fn put_in(out: &mut [u32], at: usize, opened: Opened, place: usize, leads: Leads
     ensures { Put out.old at (ways_in opened place leads) result out.new }
 {
     let at = put_three(out, at, true, place, 0, leads.word);
+    let to = leads.target_addr();
     let out_of = leaves(opened, leads);
-    let at = put_three(out, at, out_of, place, 1, leads.target);
-    put_three(out, at, leads.thumb, place, 2, leads.target)
+    let at = put_three(out, at, out_of, place, 1, to);
+    put_three(out, at, leads.enters_thumb(), place, 2, to)
 }
 
 /// The rest of them.
@@ -131,7 +155,14 @@ fn put_out(out: &mut [u32], at: usize, opened: Opened, place: usize, leads: Lead
     let at = put_three(out, at, leads.unknown, place, 3, 0);
     let off = runs_off(opened, place, leads);
     let at = put_three(out, at, off, place, 4, 0);
-    put_three(out, at, leads.stopped, place, 5, leads.refusal as u32)
+    put_three(
+        out,
+        at,
+        leads.stop.is_some(),
+        place,
+        5,
+        leads.stop_number() as u32,
+    )
 }
 
 /// The records of a place.
@@ -151,137 +182,124 @@ fn three(there: bool) -> usize
 }
 
 /// How many numbers the records of a place have.
+/// Counted beside being written, here and below: nothing may be written before all of it is known to fit.
 fn records_len(opened: Opened, place: usize, leads: Leads) -> usize
     requires { place < opened.count }
     ensures { result ≡ length (records_from opened place leads) }
 {
     let out_of = three(leaves(opened, leads));
     let off = three(runs_off(opened, place, leads));
-    3 + out_of + three(leads.thumb) + three(leads.unknown) + off + three(leads.stopped)
+    3 + out_of
+        + three(leads.enters_thumb())
+        + three(leads.unknown)
+        + off
+        + three(leads.stop.is_some())
 }
 
 /// The records of a place, if it is marked.
 fn put_here(
     out: &mut [u32],
     at: usize,
-    reached: &[u32],
-    section: &[u8],
-    opened: Opened,
+    reached: &[u32; 128],
+    section: &Section<'_>,
     place: usize,
 ) -> usize
-    requires opened_value { (opened ≡ opened_of section.now) × (place < opened.count) × (place < 4096) × (length reached.now ≡ 128) }
+    requires place_in_bounds { place < (opening_of section.now).count }
     requires room { Room out.old at (records_here section.now (marks_of reached.now) place) }
     ensures { Put out.old at (records_here section.now (marks_of reached.now) place) result out.new }
 {
     if get(reached, place) {
-        let leads = leads_at(section, opened, place);
-        put_records(out, at, opened, place, leads)
+        let leads = leads_at(section, place);
+        put_records(out, at, section.opened(), place, leads)
     } else {
         at
     }
 }
 
 /// How many numbers they have.
-fn here_len(reached: &[u32], section: &[u8], opened: Opened, place: usize) -> usize
-    requires { (opened ≡ opened_of section.now) × (place < opened.count) × (place < 4096) × (length reached.now ≡ 128) }
+fn here_len(reached: &[u32; 128], section: &Section<'_>, place: usize) -> usize
+    requires { place < (opening_of section.now).count }
     ensures { result ≡ length (records_here section.now (marks_of reached.now) place) }
 {
     if get(reached, place) {
-        let leads = leads_at(section, opened, place);
-        records_len(opened, place, leads)
+        let leads = leads_at(section, place);
+        records_len(section.opened(), place, leads)
     } else {
         0
     }
 }
 
 /// The report, place by place.
-fn put_report(out: &mut [u32], reached: &[u32], section: &[u8], opened: Opened) -> usize
-    requires opened_value { (opened ≡ opened_of section.now) × (opened.count ≤ 4096) × (length reached.now ≡ 128) }
-    requires room { Room out.old 0 (report_of section.now (marks_of reached.now)) }
+fn put_report(out: &mut [u32], reached: &[u32; 128], section: &Section<'_>) -> usize
+    requires { Room out.old 0 (report_of section.now (marks_of reached.now)) }
     ensures { Put out.old 0 (report_of section.now (marks_of reached.now)) result out.new }
 {
-    let n = opened.count as usize;
+    let n = section.opened().count as usize;
     let mut at = 0;
-    let mut place = 0;
-    while place < n {
-        at = put_here(out, at, reached, section, opened, place);
-        place += 1;
+    // By place, by which the marks are kept.
+    for place in 0..n {
+        at = put_here(out, at, reached, section, place);
     }
     at
 }
 
 /// How many numbers it has.
-fn report_len(reached: &[u32], section: &[u8], opened: Opened) -> usize
-    requires { (opened ≡ opened_of section.now) × (opened.count ≤ 4096) × (length reached.now ≡ 128) }
+fn report_len(reached: &[u32; 128], section: &Section<'_>) -> usize
     ensures { result ≡ length (report_of section.now (marks_of reached.now)) }
 {
-    let n = opened.count as usize;
+    let n = section.opened().count as usize;
     let mut len = 0;
-    let mut place = 0;
-    while place < n {
-        len += here_len(reached, section, opened, place);
-        place += 1;
+    // By place, by which the marks are kept.
+    for place in 0..n {
+        len += here_len(reached, section, place);
     }
     len
 }
 
-/// What a walk gives: how many records there are, and how many words were taken up; or the number of a refusal, and zeros.
-#[derive(Clone, Copy)]
+/// What a walk gives: how many records there are, and how many words were taken up.
+#[derive(Clone, Copy, PartialEq, Eq)]
 pub struct Walked {
-    pub refusal: u8,
     pub records: usize,
     pub words: usize,
 }
 
-fn refuse(refusal: u8) -> Walked
-    ensures { result ≡ refused_by refusal }
-{
-    Walked {
-        refusal,
-        records: 0,
-        words: 0,
-    }
-}
-
 /// Writes the report to the start of `out`, once it is known to fit.
-fn report(out: &mut [u32], reached: &[u32], section: &[u8], opened: Opened, words: usize) -> Walked
-    requires { (opened ≡ opened_of section.now) × (opened.count ≤ 4096) × (length reached.now ≡ 128) }
+fn report(
+    out: &mut [u32],
+    reached: &[u32; 128],
+    section: &Section<'_>,
+    words: usize,
+) -> Result<Walked, Refusal>
     ensures value { result ≡ answer_of (report_of section.now (marks_of reached.now)) words out.old }
     ensures out_after { out.new ≡ last_of (report_of section.now (marks_of reached.now)) out.old }
 {
-    if report_len(reached, section, opened) <= out.len() {
-        let numbers = put_report(out, reached, section, opened);
-        Walked {
-            refusal: 0,
-            records: numbers / 3,
-            words,
-        }
-    } else {
-        refuse(NO_ROOM)
+    if out.len() < report_len(reached, section) {
+        return Err(Refusal::NoRoom);
     }
+    let numbers = put_report(out, reached, section);
+    Ok(Walked {
+        records: numbers / 3,
+        words,
+    })
 }
 
 /// The walk from a place of the section.
-fn found(section: &[u8], opened: Opened, entry: usize, out: &mut [u32]) -> Walked
-    requires { (opened ≡ opened_of section.now) × (opened.count ≤ 4096) × (entry < opened.count) }
+fn found(section: &Section<'_>, entry: usize, out: &mut [u32]) -> Result<Walked, Refusal>
+    requires { entry < (opening_of section.now).count }
     ensures { Reported section.now entry out.old result out.new }
 {
-    let mut reached = [0u32; 128];
-    let mut waiting = [0u32; 128];
-    let words = search(&mut reached, &mut waiting, section, opened, entry);
-    report(out, &reached, section, opened, words)
+    let mut search = Search::new();
+    let words = search.run(section, entry);
+    report(out, &search.reached, section, words)
 }
 
 /// Reports what a walk through a section from the place `entry` reaches, and each way out.
-pub fn walk(section: &[u8], entry: usize, out: &mut [u32]) -> Walked
+pub fn walk(section: &[u8], entry: usize, out: &mut [u32]) -> Result<Walked, Refusal>
     ensures { Walks section.now entry out.old result out.new }
 {
-    let opened = open(section);
-    if opened.refusal != 0 {
-        return refuse(opened.refusal);
+    let section = Section::open(section)?;
+    if section.opened().count as usize <= entry {
+        return Err(Refusal::NoPlace);
     }
-    if opened.count as usize <= entry {
-        return refuse(NO_PLACE);
-    }
-    found(section, opened, entry, out)
+    found(&section, entry, out)
 }

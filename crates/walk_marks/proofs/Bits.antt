@@ -1,13 +1,14 @@
 -- The bits of a number as a list: one is read by a shift, set by a sum and cleared by a difference. Assumes nothing.
 use mathlib.Core.Path.{◌≡◌, refl, sym, ap, ◌∙◌}
 use mathlib.Core.Bool.{true, false}
-use Prim.Native.Nat.{ℕ, zero, suc, ◌+◌, ◌*◌, ◌-◌, ◌/◌, ◌%◌, ◌^◌, ◌≤◌, ◌<◌}
+use Prim.Native.Nat.{ℕ, zero, suc, ◌+◌, ◌*◌, ◌-◌, ◌/◌, ◌%◌, ◌^◌, ◌<◌}
 use native.Mathlib.Nat.{div-div-eq-div-mul, mul_comm, one-mul, mod-eq_of_lt, pow-suc}
 use native.Mathlib.Omega.{arith}
-use borrow.Author.Tests.{eqb-true, eqb-false}
 use lib.Dec.{eqb}
 use lib.ListN.{length, get_or, set}
-use lib.Pow.{pow-lt}
+use lib.Pow.{pow-lt, pow_pos}
+use Rattle.std.specs.Prelude.{max, min, bit_and, bit_or}
+use Rattle.std.specs.Int.Bits.{or_step, and_step, or_zero_r}
 use Rattle.walk_marks.specs.Marks.{bits_of}
 
 pub length_bits : (k w : ℕ) → length (bits_of k w) ≡ k
@@ -25,47 +26,60 @@ bit_at zero w i h = absurd (let z : ⊥ = omega arith in z)
 bit_at (suc k) w zero h = let whole : w / 1 ≡ w = omega arith in rw whole
 bit_at (suc k) w (suc i) h = bit_at k (w / 2) i (omega arith) ∙ rw (half w i)
 
--- a bit that is clear is set by adding its weight, and no other changes
-pub added : (k w i : ℕ) → i < k → get_or (bits_of k w) i false ≡ false → bits_of k (w + 2 ^ i) ≡ set (bits_of k w) i true
+-- one bit of a number or another: no other changes
+pub bit_set : (k w i : ℕ) → i < k → bits_of k (bit_or w (2 ^ i)) ≡ set (bits_of k w) i true
 unfolding bits_of
-added zero w i h e = absurd (let z : ⊥ = omega arith in z)
-added (suc k) w zero h e =
-    let low : (w + 1) % 2 ≡ 1 = omega (arith, eqb-false (w % 2) 1 e) in
-    let rest : (w + 1) / 2 ≡ w / 2 = omega (arith, eqb-false (w % 2) 1 e) in
+bit_set zero w i h = absurd (let z : ⊥ = omega arith in z)
+bit_set (suc k) w zero h =
+    let step : bit_or w 1 ≡ bit_or (w / 2) 0 * 2 + max (w % 2) 1 = or_step w 1 in
+    let one : max (w % 2) 1 ≡ 1 = omega arith in
+    let low : bit_or w 1 % 2 ≡ 1 = omega (arith, step, one) in
+    let rest : bit_or w 1 / 2 ≡ w / 2 = omega (arith, step, one, or_zero_r (w / 2)) in
     rw (low, rest)
-added (suc k) w (suc i) h e =
-    let low : (w + 2 ^ suc i) % 2 ≡ w % 2 = omega (arith, pow-suc 2 i) in
-    let rest : (w + 2 ^ suc i) / 2 ≡ w / 2 + 2 ^ i = omega (arith, pow-suc 2 i) in
-    rw (low, rest, added k (w / 2) i (omega arith) e)
+bit_set (suc k) w (suc i) h =
+    let half : 2 ^ suc i / 2 ≡ 2 ^ i = omega (arith, pow-suc 2 i) in
+    let even : 2 ^ suc i % 2 ≡ 0 = omega (arith, pow-suc 2 i) in
+    let step : bit_or w (2 ^ suc i) ≡ bit_or (w / 2) (2 ^ i) * 2 + max (w % 2) 0 = rw (half, even) at (or_step w (2 ^ suc i)) in
+    let own : max (w % 2) 0 ≡ w % 2 = omega arith in
+    let low : bit_or w (2 ^ suc i) % 2 ≡ w % 2 = omega (arith, step, own) in
+    let rest : bit_or w (2 ^ suc i) / 2 ≡ bit_or (w / 2) (2 ^ i) = omega (arith, step, own) in
+    rw (low, rest, bit_set k (w / 2) i (omega arith))
 
--- and the sum stays within k bits
-pub room : (k w i : ℕ) → i < k → w < 2 ^ k → get_or (bits_of k w) i false ≡ false → w + 2 ^ i < 2 ^ k
+-- the k lowest bits are those under a mask of k ones
+masked : (k w : ℕ) → bits_of k (bit_and w (2 ^ k - 1)) ≡ bits_of k w
 unfolding bits_of
-room zero w i h small e = absurd (let z : ⊥ = omega arith in z)
-room (suc k) w zero h small e = omega (arith, pow-suc 2 k, eqb-false (w % 2) 1 e)
-room (suc k) w (suc i) h small e =
-    omega (arith, pow-suc 2 k, pow-suc 2 i, room k (w / 2) i (omega arith) (omega (arith, pow-suc 2 k)) e)
+masked zero w = refl
+masked (suc k) w =
+    let half : (2 ^ suc k - 1) / 2 ≡ 2 ^ k - 1 = omega (arith, pow-suc 2 k) in
+    let odd : (2 ^ suc k - 1) % 2 ≡ 1 = omega (arith, pow-suc 2 k, pow_pos k) in
+    let step : bit_and w (2 ^ suc k - 1) ≡ bit_and (w / 2) (2 ^ k - 1) * 2 + min (w % 2) 1 = rw (half, odd) at (and_step w (2 ^ suc k - 1)) in
+    let own : min (w % 2) 1 ≡ w % 2 = omega arith in
+    let low : bit_and w (2 ^ suc k - 1) % 2 ≡ w % 2 = omega (arith, step, own) in
+    let rest : bit_and w (2 ^ suc k - 1) / 2 ≡ bit_and (w / 2) (2 ^ k - 1) = omega (arith, step, own) in
+    rw (low, rest, masked k (w / 2))
 
--- a bit that is set has its weight in the number
-pub has : (k w i : ℕ) → i < k → get_or (bits_of k w) i false ≡ true → 2 ^ i ≤ w
+-- and under a mask that lacks a one, that bit is clear, and no other changes
+pub bit_cleared : (k w i : ℕ) → i < k → bits_of k (bit_and w (2 ^ k - 1 - 2 ^ i)) ≡ set (bits_of k w) i false
 unfolding bits_of
-has zero w i h e = absurd (let z : ⊥ = omega arith in z)
-has (suc k) w zero h e = omega (arith, eqb-true (w % 2) 1 e)
-has (suc k) w (suc i) h e = omega (arith, pow-suc 2 i, has k (w / 2) i (omega arith) e)
-
--- and is cleared by taking that away
-pub removed : (k w i : ℕ) → i < k → get_or (bits_of k w) i false ≡ true → bits_of k (w - 2 ^ i) ≡ set (bits_of k w) i false
-unfolding bits_of
-removed zero w i h e = absurd (let z : ⊥ = omega arith in z)
-removed (suc k) w zero h e =
-    let low : (w - 1) % 2 ≡ 0 = omega (arith, eqb-true (w % 2) 1 e) in
-    let rest : (w - 1) / 2 ≡ w / 2 = omega (arith, eqb-true (w % 2) 1 e) in
-    rw (low, rest)
-removed (suc k) w (suc i) h e =
-    let large = has k (w / 2) i (omega arith) e in
-    let low : (w - 2 ^ suc i) % 2 ≡ w % 2 = omega (arith, pow-suc 2 i, large) in
-    let rest : (w - 2 ^ suc i) / 2 ≡ w / 2 - 2 ^ i = omega (arith, pow-suc 2 i, large) in
-    rw (low, rest, removed k (w / 2) i (omega arith) e)
+bit_cleared zero w i h = absurd (let z : ⊥ = omega arith in z)
+bit_cleared (suc k) w zero h =
+    let half : (2 ^ suc k - 1 - 1) / 2 ≡ 2 ^ k - 1 = omega (arith, pow-suc 2 k) in
+    let even : (2 ^ suc k - 1 - 1) % 2 ≡ 0 = omega (arith, pow-suc 2 k) in
+    let step : bit_and w (2 ^ suc k - 1 - 1) ≡ bit_and (w / 2) (2 ^ k - 1) * 2 + min (w % 2) 0 = rw (half, even) at (and_step w (2 ^ suc k - 1 - 1)) in
+    let none : min (w % 2) 0 ≡ 0 = omega arith in
+    let low : bit_and w (2 ^ suc k - 1 - 1) % 2 ≡ 0 = omega (arith, step, none) in
+    let rest : bit_and w (2 ^ suc k - 1 - 1) / 2 ≡ bit_and (w / 2) (2 ^ k - 1) = omega (arith, step, none) in
+    rw (low, rest, masked k (w / 2))
+bit_cleared (suc k) w (suc i) h =
+    let room : 2 ^ i < 2 ^ k = pow-lt (omega arith) in
+    let m = 2 ^ suc k - 1 - 2 ^ suc i in
+    let half : m / 2 ≡ 2 ^ k - 1 - 2 ^ i = omega (arith, pow-suc 2 k, pow-suc 2 i, room) in
+    let odd : m % 2 ≡ 1 = omega (arith, pow-suc 2 k, pow-suc 2 i, room) in
+    let step : bit_and w m ≡ bit_and (w / 2) (2 ^ k - 1 - 2 ^ i) * 2 + min (w % 2) 1 = rw (half, odd) at (and_step w m) in
+    let own : min (w % 2) 1 ≡ w % 2 = omega arith in
+    let low : bit_and w m % 2 ≡ w % 2 = omega (arith, step, own) in
+    let rest : bit_and w m / 2 ≡ bit_and (w / 2) (2 ^ k - 1 - 2 ^ i) = omega (arith, step, own) in
+    rw (low, rest, bit_cleared k (w / 2) i (omega arith))
 
 -- one, shifted left, is that weight
 pub weight : (i : ℕ) → i < 32 → (1 * 2 ^ i) % 2 ^ 32 ≡ 2 ^ i

@@ -18,7 +18,7 @@ fn with_bit(w: u32, i: u32) -> u32
     requires { i < 32 }
     ensures { bits_of 32 result ≡ set (bits_of 32 w) i true }
 {
-    if bit(w, i) { w } else { w + (1 << i) }
+    w | (1 << i)
 }
 
 /// `w` with bit `i` clear.
@@ -26,7 +26,7 @@ fn without_bit(w: u32, i: u32) -> u32
     requires { i < 32 }
     ensures { bits_of 32 result ≡ set (bits_of 32 w) i false }
 {
-    if bit(w, i) { w - (1 << i) } else { w }
+    w & !(1 << i)
 }
 
 /// Whether `place` is marked.
@@ -66,11 +66,12 @@ fn pass(marks: &[u32], place: usize) -> usize
     if get(marks, place) { place } else { place + 1 }
 }
 
-/// The first marked place from `place` on; behind all of them where there is none.
+/// The first marked place from `place` on; behind all of them where there is none, as docs/EXCEPTIONS.md has it: a walk asks whether it is a place.
 pub fn first(marks: &[u32], place: usize) -> usize
     requires { (place ≤ 32 * length marks.now) × (length marks.now ≤ 128) }
     ensures { First (marks_of marks.now) place result }
 {
+    // No `for`: it goes on by 32 places, or by one.
     let mut at = place;
     while at < marks.len() * 32 {
         let next = pass(marks, at);

@@ -1,30 +1,46 @@
 -- Where a walk goes from what stands at a place, sentence by sentence (02, P7).
-use Rattle.std.specs.Prelude.{Bool, true, false, List, ℕ, eqb, ltb}
-use Rattle.word.specs.Choice.{pick}
+use Rattle.std.specs.Prelude.{Bool, true, false, List, ℕ, eqb, ltb, Option, Some, None, Ok, Err}
+use Rattle.word.specs.Refusal.{number}
 use Rattle.insn.specs.Roots.{name}
 use Rattle.insn.specs.declared.Cond.{Cond}
-use Rattle.insn.specs.declared.Decoded.{Decoded}
+use Rattle.insn.specs.Answer.{Decoded}
 use Rattle.insn.specs.declared.Flow.{Flow}
 use Rattle.insn.specs.declared.Flow.TheVariants.{Next, Branch, CondBranch, IndirectBranch, Call, IndirectCall, Return, Trap}
 use Rattle.a32.specs.Decode.{decode_of}
 use Rattle.section.specs.Section.{here_of}
 use Rattle.section.specs.declared.Here.{Here}
-use Rattle.section.specs.declared.Here.TheVariants.{Word, Data, End}
+use Rattle.section.specs.declared.Here.TheVariants.{Word, Data as DataHere, End}
 use Rattle.walk_steps.specs.declared.Leads.{Leads}
+use Rattle.walk_steps.specs.declared.Stop.{Stop}
+use Rattle.walk_steps.specs.declared.Stop.TheVariants.{Data, Refused}
+use Rattle.walk_steps.specs.declared.Target.{Target}
 
 -- a word without a direct target: whether it goes on, and whether it goes where a register says
 abbrev pub goes_on : ℕ → Bool → Bool → Leads
-goes_on w on unknown =
-    record { word = w; on = on; direct = false; thumb = false; target = 0; unknown = unknown; stopped = false; refusal = 0 }
+goes_on w on unknown = record { word = w; on = on; to = None; unknown = unknown; stop = None }
 
 -- one with: whether it goes on too, and whether the target enters Thumb
 abbrev pub goes_to : ℕ → Bool → Bool → ℕ → Leads
-goes_to w on thumb target =
-    record { word = w; on = on; direct = true; thumb = thumb; target = target; unknown = false; stopped = false; refusal = 0 }
+goes_to w on thumb target = record { word = w; on = on; to = Some (record { addr = target; thumb = thumb }); unknown = false; stop = None }
 
 -- one where the walk stops
-abbrev pub stops : ℕ → ℕ → Leads
-stops w n = record { word = w; on = false; direct = false; thumb = false; target = 0; unknown = false; stopped = true; refusal = n }
+abbrev pub stops : ℕ → Stop → Leads
+stops w stop = record { word = w; on = false; to = None; unknown = false; stop = Some stop }
+
+-- the address of the target, if there is one, and whether it enters Thumb
+abbrev pub target_addr : Option Target → ℕ
+target_addr (Some t) = t.addr
+target_addr None = 0
+
+abbrev pub enters_thumb : Option Target → Bool
+enters_thumb (Some t) = t.thumb
+enters_thumb None = false
+
+-- the number of the refusal that the walk stops at, or 0
+abbrev pub stop_number : Option Stop → ℕ
+stop_number (Some (Refused r)) = number r
+stop_number (Some Data) = 0
+stop_number None = 0
 
 -- "return, trap and indirect branch stop, except that under a condition below 14 they also go on"
 abbrev pub perhaps : Cond → Bool
@@ -44,11 +60,12 @@ flow_leads w root cond Trap = goes_on w (perhaps cond) false
 
 -- "Refused and data words stop"
 abbrev pub answer_leads : ℕ → Decoded → Leads
-answer_leads w d = pick (eqb d.refusal 0) (flow_leads w d.insn.name d.insn.cond d.insn.flow) (stops w d.refusal)
+answer_leads w (Ok i) = flow_leads w i.name i.cond i.flow
+answer_leads w (Err r) = stops w (Refused r)
 
 abbrev pub here_leads : Here → Leads
 here_leads (Word word address) = answer_leads word (decode_of word address)
-here_leads (Data word address) = stops word 0
+here_leads (DataHere word address) = stops word Data
 here_leads End = goes_on 0 false false
 
 unfoldable pub leads_at : List ℕ → ℕ → Leads

@@ -2,30 +2,74 @@
 #![tactic(auto)]
 
 ghost use Rattle.std.specs.Prelude.{◌≡◌, ◌<◌};
-ghost use Rattle.section.specs.Section.{opened_of};
-ghost use Rattle.walk_steps.specs.Leads.{goes_on, goes_to, stops, flow_leads, answer_leads, here_leads, leads_at};
-ghost use Rattle.walk_steps.specs.Steps.{place_of, is_inside, steps_on, runs_off, steps_to, leaves};
+ghost use Rattle.std.specs.Prelude.{Option, Some, None};
+ghost use Rattle.section.specs.Section.{opening_of};
+ghost use Rattle.walk_steps.specs.Leads.{goes_on, goes_to, stops, flow_leads, answer_leads, here_leads, leads_at, target_addr, enters_thumb, stop_number};
+ghost use Rattle.walk_steps.specs.Steps.{place_of, is_inside, next_place, runs_off, target_place, leaves};
 
 use a32::decode;
 use insn::name::BLX;
 use insn::{Cond, Decoded, Flow};
 use section::{Here, Opened, read};
+use word::refusal::Refusal;
+
+/// An address that a word goes to, and whether it enters Thumb there.
+#[derive(Clone, Copy, PartialEq, Eq)]
+pub struct Target {
+    pub addr: u32,
+    pub thumb: bool,
+}
+
+/// Why a walk stops at a word.
+#[derive(Clone, Copy, PartialEq, Eq)]
+pub enum Stop {
+    Data,
+    Refused(Refusal),
+}
 
 /// Where a walk goes from a word, and what is to be reported of it.
-#[derive(Clone, Copy)]
+#[derive(Clone, Copy, PartialEq, Eq)]
 pub struct Leads {
     pub word: u32,
     /// It goes on to the place after it.
     pub on: bool,
-    /// It has a direct target, which is followed, or enters Thumb.
-    pub direct: bool,
-    pub thumb: bool,
-    pub target: u32,
+    /// Its direct target, which is followed, or enters Thumb.
+    pub to: Option<Target>,
     /// It goes where a register says.
     pub unknown: bool,
-    /// It is refused, with a number, or data, with 0.
-    pub stopped: bool,
-    pub refusal: u8,
+    pub stop: Option<Stop>,
+}
+
+impl Leads {
+    /// The address of the target, or 0.
+    pub fn target_addr(self) -> u32
+        ensures { result ≡ target_addr self.to }
+    {
+        match self.to {
+            Some(to) => to.addr,
+            None => 0,
+        }
+    }
+
+    /// Whether the target enters Thumb.
+    pub fn enters_thumb(self) -> bool
+        ensures { result ≡ enters_thumb self.to }
+    {
+        match self.to {
+            Some(to) => to.thumb,
+            None => false,
+        }
+    }
+
+    /// The number of the refusal that a walk stops at, or 0.
+    pub fn stop_number(self) -> u8
+        ensures { result ≡ stop_number self.stop }
+    {
+        match self.stop {
+            Some(Stop::Refused(refusal)) => refusal.number(),
+            _ => 0,
+        }
+    }
 }
 
 /// Going on.
@@ -35,44 +79,35 @@ fn goes_on(word: u32, on: bool, unknown: bool) -> Leads
     Leads {
         word,
         on,
-        direct: false,
-        thumb: false,
-        target: 0,
+        to: None,
         unknown,
-        stopped: false,
-        refusal: 0,
+        stop: None,
     }
 }
 
 /// Going to a target.
-fn goes_to(word: u32, on: bool, thumb: bool, target: u32) -> Leads
-    ensures { result ≡ goes_to word on thumb target }
+fn goes_to(word: u32, on: bool, thumb: bool, addr: u32) -> Leads
+    ensures { result ≡ goes_to word on thumb addr }
 {
     Leads {
         word,
         on,
-        direct: true,
-        thumb,
-        target,
+        to: Some(Target { addr, thumb }),
         unknown: false,
-        stopped: false,
-        refusal: 0,
+        stop: None,
     }
 }
 
 /// Going nowhere.
-fn stops(word: u32, refusal: u8) -> Leads
-    ensures { result ≡ stops word refusal }
+fn stops(word: u32, stop: Stop) -> Leads
+    ensures { result ≡ stops word stop }
 {
     Leads {
         word,
         on: false,
-        direct: false,
-        thumb: false,
-        target: 0,
+        to: None,
         unknown: false,
-        stopped: true,
-        refusal,
+        stop: Some(stop),
     }
 }
 
@@ -96,67 +131,56 @@ fn flow_leads(word: u32, name: u16, cond: Cond, flow: Flow) -> Leads
 fn answer_leads(word: u32, d: Decoded) -> Leads
     ensures { result ≡ answer_leads word d }
 {
-    let insn = d.insn;
-    let flow = insn.flow;
-    if d.refusal == 0 {
-        flow_leads(word, insn.name, insn.cond, flow)
-    } else {
-        stops(word, d.refusal)
+    match d {
+        Ok(insn) => flow_leads(word, insn.name, insn.cond, insn.flow),
+        Err(refusal) => stops(word, Stop::Refused(refusal)),
     }
 }
 
 /// By what stands at a place.
-fn here_leads(here: Here) -> Leads
+pub fn here_leads(here: Here) -> Leads
     ensures { result ≡ here_leads here }
 {
     match here {
         Here::Word(word, addr) => answer_leads(word, decode(word, addr as u64)),
-        Here::Data(word, _) => stops(word, 0),
+        Here::Data(word, _) => stops(word, Stop::Data),
         Here::End => goes_on(0, false, false),
     }
 }
 
-/// By the place of a section.
+/// By the place of a section. It takes bytes and what they are opened to, as `read` does: a section that is refused leads nowhere.
+#[tactic(auto, unfolding(crate::specs::Leads::leads_at))]
 pub fn leads_at(section: &[u8], opened: Opened, place: usize) -> Leads
-    requires { opened ≡ opened_of section.now }
+    requires { opened ≡ opening_of section.now }
     ensures { result ≡ leads_at section.now place }
 {
-    let step = read(section, opened, place);
-    let here = step.here;
-    here_leads(here)
+    here_leads(read(section, opened, place))
 }
 
 /// The place of an address, if the section has one.
+/// Below the base it is place 0: whether there is one, `is_inside` tells.
 pub fn place_of(opened: Opened, addr: u32) -> usize
     ensures { result ≡ place_of opened addr }
 {
-    if addr < opened.base {
-        0
-    } else {
-        ((addr - opened.base) / 4) as usize
-    }
+    (addr.saturating_sub(opened.base) / 4) as usize
 }
 
 /// Whether an address is in the section.
 fn is_inside(opened: Opened, addr: u32) -> bool
     ensures { result ≡ is_inside opened addr }
 {
-    if opened.base <= addr {
-        place_of(opened, addr) < opened.count as usize
-    } else {
-        false
-    }
+    opened.base <= addr && place_of(opened, addr) < opened.count as usize
 }
 
-/// Whether going on leads to the next place of the section.
-pub fn steps_on(opened: Opened, place: usize, leads: Leads) -> bool
+/// The next place of the section, if going on leads there.
+pub fn next_place(opened: Opened, place: usize, leads: Leads) -> Option<usize>
     requires { place < opened.count }
-    ensures { result ≡ steps_on opened place leads }
+    ensures { result ≡ next_place opened place leads }
 {
-    if leads.on {
-        place + 1 < opened.count as usize
+    if leads.on && place + 1 < opened.count as usize {
+        Some(place + 1)
     } else {
-        false
+        None
     }
 }
 
@@ -165,25 +189,16 @@ pub fn runs_off(opened: Opened, place: usize, leads: Leads) -> bool
     requires { place < opened.count }
     ensures { result ≡ runs_off opened place leads }
 {
-    if leads.on {
-        !(place + 1 < opened.count as usize)
-    } else {
-        false
-    }
+    leads.on && !(place + 1 < opened.count as usize)
 }
 
-/// Whether a target is followed: it is in the section, and stays in A32.
-pub fn steps_to(opened: Opened, leads: Leads) -> bool
-    ensures { result ≡ steps_to opened leads }
+/// The place of a target that is followed: it is in the section, and stays in A32.
+pub fn target_place(opened: Opened, leads: Leads) -> Option<usize>
+    ensures { result ≡ target_place opened leads }
 {
-    if leads.direct {
-        if leads.thumb {
-            false
-        } else {
-            is_inside(opened, leads.target)
-        }
-    } else {
-        false
+    match leads.to {
+        Some(to) if !to.thumb && is_inside(opened, to.addr) => Some(place_of(opened, to.addr)),
+        _ => None,
     }
 }
 
@@ -191,9 +206,8 @@ pub fn steps_to(opened: Opened, leads: Leads) -> bool
 pub fn leaves(opened: Opened, leads: Leads) -> bool
     ensures { result ≡ leaves opened leads }
 {
-    if leads.direct {
-        !is_inside(opened, leads.target)
-    } else {
-        false
+    match leads.to {
+        Some(to) => !is_inside(opened, to.addr),
+        None => false,
     }
 }

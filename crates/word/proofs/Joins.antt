@@ -1,6 +1,6 @@
 -- A word put together from its fields in 32 bits, highest first, is the join of the fields as far as it fits. Assumes nothing.
 use Rattle.std.proofs.Common.{◌≡◌, ℕ, zero, suc, ◌+◌, ◌*◌, ◌/◌, ◌%◌, ◌^◌, ◌<◌, T, ltb, List, [], ◌∷◌, length, get_or, drop, sym, ap, ◌∙◌, add_assoc, add-mul, div-add-mod', mul_right_comm, arith, ltb→lt, drop-cons}
-use native.Mathlib.Nat.{mul-add-mod_self_right}
+use Rattle.std.proofs.Math.Nat.{mul-add-mod_self_right}
 use Rattle.word.specs.Every.{left, right}
 use Rattle.word.specs.Layout.{join, narrow}
 

@@ -1,6 +1,6 @@
 -- No second result fits a contract. Each line is about the contract itself, as the check reads it from the source.
 -- Assumes nothing.
-use Rattle.std.proofs.Common.{sym, ◌∙◌}
+use Rattle.std.proofs.Common.{◌≡◌, sym, ◌∙◌}
 use Rattle.word.specs.Only.{Only}
 use Rattle.word.proofs.bits.Reads as bits
 use Rattle.word.proofs.bit.Reads as bit
@@ -12,6 +12,8 @@ use Rattle.word.proofs.positive.Reads as positive
 use Rattle.word.proofs.negative.Reads as negative
 use Rattle.word.proofs.as_signed.Reads as as_signed
 use Rattle.word.proofs.word_at.Reads as word_at
+use Rattle.word.proofs.refusal.Refusal.number.Reads as number
+use Rattle.word.proofs.refusal.number_of.Reads as number_of
 
 pub bits_only : Only bits.Post
 bits_only κs a r r' s s' p q = p ∙ sym q
@@ -42,3 +44,10 @@ as_signed_only κs a r r' s s' p q = p ∙ sym q
 
 pub word_at_only : Only word_at.Post
 word_at_only κs a r r' s s' p q = p ∙ sym q
+
+pub number_only : Only number.Post
+number_only κs a r r' s s' p q = p ∙ sym q
+
+pub number_of_only : (T : _) (laws : _) (copy : _) (C : _) (d : _) (κs : _) (a : _) (r r' : _) (s s' : _) → number_of.Post T laws copy C d κs a r s
+    → number_of.Post T laws copy C d κs a r' s' → r ≡ r'
+number_of_only T laws copy C d κs a r r' s s' p q = p ∙ sym q

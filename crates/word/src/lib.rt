@@ -10,6 +10,7 @@ ghost use Rattle.word.specs.Signed.{sext_of, target_of, minus, signed};
 pub mod refusal;
 
 /// Bits `hi..=lo` of `w`.
+#[tactic(auto, unfolding(crate::specs::Field::field), using(crate::proofs::One::shifted_one))]
 pub fn bits(w: u32, hi: u32, lo: u32) -> u32
     requires { (lo ≤ hi) × (hi < 32) × (hi - lo < 31) }
     ensures { result ≡ field w lo (hi - lo + 1) }
@@ -18,6 +19,7 @@ pub fn bits(w: u32, hi: u32, lo: u32) -> u32
 }
 
 /// Bit `n` of `w`.
+#[tactic(auto, unfolding(crate::specs::Field::field))]
 pub fn bit(w: u32, n: u32) -> u32
     requires { n < 32 }
     ensures { result ≡ field w n 1 }
@@ -34,15 +36,13 @@ pub fn bits_then(w: u32, hi: u32, lo: u32, hi2: u32, lo2: u32) -> u32
 }
 
 /// The word that has these fields, each as wide as `widths` says, lowest first. What does not fit spills into the fields above, and is
-/// lost past bit 31.
+/// lost past bit 31. The two are slices whose lengths it requires to be one, since arrays of one length would ask more of who calls it.
 pub fn join(widths: &[u64], values: &[u64]) -> u32
     requires { (length widths.now ≡ length values.now) × T (narrow widths.now) }
     ensures { result ≡ join widths.now values.now % 2 ^ 32 }
 {
     let mut w: u64 = 0;
-    let mut n = widths.len();
-    while 0 < n {
-        n -= 1;
+    for n in (0..widths.len()).rev() {
         let above = (w << widths[n]) % 0x1_0000_0000;
         w = (above + values[n] % 0x1_0000_0000) % 0x1_0000_0000;
     }
@@ -64,10 +64,11 @@ pub fn sext(v: u32, n: u32) -> u32
 
 /// ARM addresses are thirty-two bits, so a branch that runs off either end wraps there and not in the sixty-four bits
 /// of the address it starts from.
+#[tactic(auto, unfolding(crate::specs::Signed::target_of))]
 pub fn target(addr: u64, off: u32) -> u32
     ensures { result ≡ target_of addr off }
 {
-    std::num::wrapping_add_u32((addr % 0x1_0000_0000) as u32, off)
+    ((addr % 0x1_0000_0000) as u32).wrapping_add(off)
 }
 
 /// `v` as it stands.
@@ -85,6 +86,7 @@ pub fn negative(v: u32) -> i64
 }
 
 /// `v` read as a signed 32-bit number.
+/// By halves: a cast keeps the number, so one from 2^31 on is not cast.
 pub fn as_signed(v: u32) -> i64
     ensures { result ≡ signed v }
 {
@@ -100,14 +102,5 @@ pub fn word_at(bytes: &[u8], at: usize) -> u32
     requires { at + 4 ≤ length bytes.now }
     ensures { result ≡ word_at bytes.now at }
 {
-    wide(bytes[at])
-        + 0x100 * wide(bytes[at + 1])
-        + 0x1_0000 * wide(bytes[at + 2])
-        + 0x100_0000 * wide(bytes[at + 3])
-}
-
-fn wide(b: u8) -> u32
-    ensures { (result ≡ b) × (result < 256) }
-{
-    b as u32
+    u32::from_le_bytes([bytes[at], bytes[at + 1], bytes[at + 2], bytes[at + 3]])
 }

@@ -1,5 +1,5 @@
 -- `arm::status_mask` meets its contract. Assumes nothing.
-use native.Mathlib.Omega.{arith}
+use Rattle.std.proofs.Common.{arith}
 use Rattle.word.specs.Layout.{joined_small}
 use Rattle.a32_shared.proofs.status_mask.Goals as goal
 

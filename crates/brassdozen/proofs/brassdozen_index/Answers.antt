@@ -3,5 +3,5 @@ use native.Mathlib.Omega.{arith}
 use Rattle.callers.proofs.Answers.{built_small}
 use Rattle.brassdozen.proofs.brassdozen_index.Goals as goal
 
-pub overflow_cast-built : goal.overflow_cast-built
-overflow_cast-built c = let few = built_small c.build-built.ensures in record { fits = omega arith }
+pub pack_len-requires : goal.pack_len-requires
+pack_len-requires c = omega (arith, built_small c.build.ensures)

@@ -5,7 +5,7 @@ use Rattle.listing_text.proofs.Enough.{listing_fits}
 use Rattle.brassdozen.proofs.From.{no_longer}
 use Rattle.brassdozen.proofs.brassdozen_listing.Goals as goal
 
-pub overflow_cast-w : goal.overflow_cast-w
-overflow_cast-w c =
-    let short = no_longer (listing_of c.args.section.now) c.args.out.now c.listing-w.ensures.value in
-    record { fits = omega (arith, short, listing_fits c.args.section.now) }
+pub pack_len-requires : goal.pack_len-requires
+pack_len-requires c =
+    let short = no_longer (listing_of c.args.section.now) c.args.out.now c.listing.ensures.value in
+    omega (arith, short, listing_fits c.args.section.now)

@@ -1,29 +1,25 @@
 -- `brassdozen::brassdozen_place` meets its contract. Assumes nothing.
-use mathlib.Core.Path.{◌≡◌, sym, ap, ◌∙◌}
-use Rattle.section.specs.Section.{refusal_of}
-use Rattle.section.specs.declared.Opened.{Opened}
-use Rattle.section.specs.declared.Step.{Step}
-use Rattle.section.proofs.Accepted.{same_refusal}
-use Rattle.brassdozen.proofs.Placed.{given_there, given_none}
+use mathlib.Core.Path.{◌≡◌, sym, ◌∙◌}
+use mathlib.Core.List.{List}
+use Prim.Native.Nat.{ℕ}
+use Rattle.std.specs.Prelude.{Err}
+use Rattle.word.specs.Refusal.{number, not_refused}
+use Rattle.word.specs.declared.refusal.Refusal.{Refusal}
+use Rattle.section.specs.Section.{refusal_of, section_of}
+use Rattle.section.proofs.Accepted.{same_refusal, section_refused}
+use Rattle.brassdozen.proofs.Placed.{given_none}
 use Rattle.brassdozen.proofs.brassdozen_place.Goals as goal
-use Rattle.brassdozen.proofs.brassdozen_place.Lts as lts
-use Rattle.brassdozen.proofs.brassdozen_place.Reads as reads
-use Rattle.brassdozen.proofs.brassdozen_place.Tie as tie
 
-refusal : (c : lts.After-open tie.the-claims reads.Pre reads.Post tie.handed_clauses) → c.open-opened.result.refusal ≡ refusal_of c.args.section.now
-refusal c = ap (λ (o : Opened). o.refusal) c.open-opened.ensures ∙ same_refusal _
+-- the number of a section's own refusal
+its_own : (s : List ℕ) {r : Refusal} → Err r ≡ section_of s → number r ≡ refusal_of s
+its_own s is = section_refused s is ∙ same_refusal s
 
-pub returns-then-opened-eq0-clause-value : goal.returns-then-opened-eq0-clause-value
-returns-then-opened-eq0-clause-value c =
-    (given_there _ _ _ (sym (refusal c.before.before.before.before.before.before.before.before) ∙ c.if-opened-eq0.true) (ap (λ (step : Step). step.here) c.read-step.ensures)
-    (c.put_here.ensures.value, c.put_here.ensures.out_after)).0
+pub returns-in-Err-clause-value : goal.returns-in-Err-clause-value
+returns-in-Err-clause-value c =
+    let own = its_own c.args.section.now (sym c.in-Err.is ∙ c.open.ensures) in
+    c.number.ensures ∙ own ∙ (given_none c.args.section.now c.args.place c.args.out.now (λ none. not_refused c.in-Err.refusal (own ∙ none))).0
 
-pub returns-else-opened-eq0-clause-value : goal.returns-else-opened-eq0-clause-value
-returns-else-opened-eq0-clause-value c =
-    let given = given_none _ _ _ (λ ok. c.if-opened-eq0.false (refusal c.before.before.before ∙ ok)) in
-    refusal c.before.before.before ∙ given.0
-
-pub returns-else-opened-eq0-clause-out_after : goal.returns-else-opened-eq0-clause-out_after
-returns-else-opened-eq0-clause-out_after c =
-    let given = given_none _ _ _ (λ ok. c.if-opened-eq0.false (refusal c.before.before.before ∙ ok)) in
-    given.1
+pub returns-in-Err-clause-out_after : goal.returns-in-Err-clause-out_after
+returns-in-Err-clause-out_after c =
+    let own = its_own c.args.section.now (sym c.in-Err.is ∙ c.open.ensures) in
+    (given_none c.args.section.now c.args.place c.args.out.now (λ none. not_refused c.in-Err.refusal (own ∙ none))).1

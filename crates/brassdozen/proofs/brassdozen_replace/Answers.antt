@@ -3,5 +3,5 @@ use native.Mathlib.Omega.{arith}
 use Rattle.callers.proofs.Answers.{replaced_small}
 use Rattle.brassdozen.proofs.brassdozen_replace.Goals as goal
 
-pub overflow_cast-updated : goal.overflow_cast-updated
-overflow_cast-updated c = let few = replaced_small c.replace-updated.ensures in record { fits = omega arith }
+pub pack_len-requires : goal.pack_len-requires
+pack_len-requires c = omega (arith, replaced_small c.replace.ensures)

@@ -1,5 +1,5 @@
 -- `callers::fill` meets its contract.
--- The loop's invariant: the calls before `place` are written. Assumes nothing.
+-- The loop's invariant: the calls before the reader's place are written. Assumes nothing.
 use mathlib.Core.Path.{◌≡◌, refl, ap, sym, subst, ◌∙◌}
 use mathlib.Core.List.{List, []}
 use Prim.Native.Nat.{ℕ, ◌≤◌}
@@ -7,10 +7,10 @@ use native.Mathlib.Omega.{arith}
 use lib.ListN.{length}
 use Rattle.text.specs.Text.{written}
 use Rattle.text.proofs.Writing.{nothing as nothing_new}
-use Rattle.section.specs.Section.{step_of}
-use Rattle.section.specs.declared.Step.{Step}
-use Rattle.section.proofs.Places.{Stands, nothing}
+use Rattle.section.specs.Section.{Step, step_of}
+use Rattle.section.proofs.Places.{Stands}
 use Rattle.section.proofs.Fold.{upto, before, goes_on, ends}
+use Rattle.section.proofs.Yielded.{stands}
 use Rattle.callers_index.specs.Entries.{entries_of, numbers_of}
 use Rattle.callers_index.specs.Ordered.{In}
 use Rattle.callers_index.specs.declared.Entry.{Entry}
@@ -48,65 +48,71 @@ module _ (index₀ s : List ℕ) (place : ℕ) {index : List ℕ} {n : ℕ} (lon
     new e i own =
         others_before s place (before s place read refl some) e (subst (In e) held i) (own ∙ ap (λ (x : Step). address_here x.here) read)
 
-pub loop-opened-init : goal.loop-opened-init
-loop-opened-init c = (refl, refl, nothing_new _ 0)
-
-pub returns-then-is_end-clause-value : goal.returns-then-is_end-clause-value
-unfolding index_of
-returns-then-is_end-clause-value c =
-    let now = c.loop-opened in
-    let end = nothing c.read-step.result.here (sym c.is_end.ensures ∙ c.if-is_end.true) in
-    let index₀ = c.args.index.now in
-    let all = ends _ _ c.read-step.ensures end add_here [] in now.invariant.1 ∙ ap (λ (l : List Entry). length l) all
-
-pub returns-then-is_end-clause-index_after : goal.returns-then-is_end-clause-index_after
-unfolding index_of
-returns-then-is_end-clause-index_after c =
-    let now = c.loop-opened in
-    let end = nothing c.read-step.result.here (sym c.is_end.ensures ∙ c.if-is_end.true) in
-    let index₀ = c.args.index.now in
-    let all = ends _ _ c.read-step.ensures end add_here [] in now.invariant.2 ∙ ap (λ (l : List Entry). written index₀ 0 (numbers_of l)) all
+pub loop-here-init : goal.loop-here-init
+loop-here-init c =
+    let start = c.places-here-items.ensures in
+    rw c.into_iter-here-iterator.ensures.into_iter_gives (start.0, refl, rw start.1 refl, rw start.1 (nothing_new _ 0))
 
 pub add_here-n-requires-clause-n_in_bounds : goal.add_here-n-requires-clause-n_in_bounds
 add_here-n-requires-clause-n_in_bounds c =
-    let now = c.loop-opened in
-    let index₀ = c.args.index.now in
-    let section = c.args.section.now in
-    let found = c.read-step.ensures in
-    let some = sym c.is_end.ensures ∙ c.if-is_end.false in omega (arith, now.invariant.0, now.invariant.1, never_more section now.place, c.requires.section_in_bounds)
+    let now = c.loop-here in
+    omega (
+      arith,
+      now.invariant.1,
+      now.invariant.2,
+      never_more c.args.section.now now.here-iterator.place,
+      c.requires,
+    )
 
 pub add_here-n-requires-clause-here_in_bounds : goal.add_here-n-requires-clause-here_in_bounds
 add_here-n-requires-clause-here_in_bounds c =
-    let now = c.loop-opened in
-    let index₀ = c.args.index.now in
+    let now = c.loop-here in
     let section = c.args.section.now in
-    let found = c.read-step.ensures in
-    let some = sym c.is_end.ensures ∙ c.if-is_end.false in
+    let place = now.here-iterator.place in
+    let found = rw now.invariant.0 at c.in-Some.ensures.steps.1 in
+    let some = stands section place (rw now.invariant.0 at c.in-Some.ensures.steps.0) found in
     omega (
       arith,
-      now.invariant.0,
-      ap (λ (l : List Entry). length l) (adds index₀ section now.place now.invariant.1 now.invariant.2 found some),
-      never_more section c.read-step.result.after,
-      c.requires.section_in_bounds,
+      now.invariant.1,
+      ap (λ (l : List Entry). length l) (adds c.args.index.now section place now.invariant.2 now.invariant.3 found some),
+      never_more section c.next.new.self.place,
+      c.requires,
     )
 
 pub add_here-n-requires-clause-fact : goal.add_here-n-requires-clause-fact
 add_here-n-requires-clause-fact c =
-    let now = c.loop-opened in
-    let index₀ = c.args.index.now in
+    let now = c.loop-here in
     let section = c.args.section.now in
-    let found = c.read-step.ensures in
-    let some = sym c.is_end.ensures ∙ c.if-is_end.false in new index₀ section now.place now.invariant.1 now.invariant.2 found some
+    let place = now.here-iterator.place in
+    let found = rw now.invariant.0 at c.in-Some.ensures.steps.1 in
+    let some = stands section place (rw now.invariant.0 at c.in-Some.ensures.steps.0) found in
+    new c.args.index.now section place now.invariant.2 now.invariant.3 found some
 
-pub loop-opened-preserved : goal.loop-opened-preserved
-loop-opened-preserved c =
+pub loop-here-preserved : goal.loop-here-preserved
+loop-here-preserved c =
     let added = c.add_here-n in
-    let now = c.loop-opened in
+    let now = c.loop-here in
     let index₀ = c.args.index.now in
     let section = c.args.section.now in
-    let found = c.read-step.ensures in
-    let some = sym c.is_end.ensures ∙ c.if-is_end.false in (
-      added.auto.index ∙ now.invariant.0,
-      added.ensures.value ∙ ap (λ (l : List Entry). length l) (adds index₀ section now.place now.invariant.1 now.invariant.2 found some),
-      added.ensures.index_after ∙ writes index₀ section now.place now.invariant.1 now.invariant.2 found some,
+    let place = now.here-iterator.place in
+    let found = rw now.invariant.0 at c.in-Some.ensures.steps.1 in
+    let some = stands section place (rw now.invariant.0 at c.in-Some.ensures.steps.0) found in (
+      rw c.in-Some.ensures.steps.2 now.invariant.0,
+      added.auto.index ∙ now.invariant.1,
+      added.ensures.value ∙ ap (λ (l : List Entry). length l) (adds index₀ section place now.invariant.2 now.invariant.3 found some),
+      added.ensures.index_after ∙ writes index₀ section place now.invariant.2 now.invariant.3 found some,
     )
+
+pub returns-clause-value : goal.returns-clause-value
+unfolding index_of
+returns-clause-value c =
+    let now = c.loop-here in
+    let all = ends c.args.section.now now.here-iterator.place (rw now.invariant.0 at c.in-None.ensures.steps.1) refl add_here [] in
+    now.invariant.2 ∙ ap (λ (l : List Entry). length l) all
+
+pub returns-clause-index_after : goal.returns-clause-index_after
+unfolding index_of
+returns-clause-index_after c =
+    let now = c.loop-here in
+    let all = ends c.args.section.now now.here-iterator.place (rw now.invariant.0 at c.in-None.ensures.steps.1) refl add_here [] in
+    now.invariant.3 ∙ ap (λ (l : List Entry). written c.args.index.now 0 (numbers_of l)) all

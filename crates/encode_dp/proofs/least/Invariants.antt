@@ -1,11 +1,7 @@
 -- `dp_words::least` meets its contract. The invariant: what is left to try gives what all gives. Assumes nothing.
-use mathlib.Core.Path.{◌≡◌}
-use Prim.Native.Nat.{◌-◌, ◌≤◌}
+use Rattle.std.proofs.Common.{◌≡◌, ◌-◌}
 use Rattle.a32_imm.specs.Imm.{least_from}
 use Rattle.encode_dp.proofs.least.Given as goal
 
 abbrev pub invariant-loop-r : goal.invariant-loop-r
-invariant-loop-r l = (l.r ≤ 16) × (least_from (16 - l.r) l.r l.v ≡ least_from 16 0 l.v)
-
-abbrev pub decreases-loop-r : goal.decreases-loop-r
-decreases-loop-r l = 16 - l.r
+invariant-loop-r l = least_from (16 - l.r) l.r l.v ≡ least_from 16 0 l.v

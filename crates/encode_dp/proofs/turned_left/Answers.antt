@@ -1,6 +1,5 @@
 -- `dp_words::turned_left` meets its contract. Assumes nothing.
-use Prim.Native.Nat.{◌-◌}
-use native.Mathlib.Omega.{arith}
+use Rattle.std.proofs.Common.{◌-◌, arith}
 use Rattle.encode_dp.proofs.Turned.{one_shifted, low_kept, low_fits, high_fits}
 use Rattle.encode_dp.proofs.turned_left.Goals as goal
 

@@ -1,7 +1,5 @@
 -- `words::word_of` meets its contract: its tests are those of the groups' names. Assumes nothing.
-use mathlib.Core.Path.{sym, ◌∙◌}
-use native.Mathlib.Nat.{le_refl}
-use native.Mathlib.Omega.{arith}
+use Rattle.std.proofs.Common.{sym, ◌∙◌, le_refl, arith}
 use Rattle.encode_words.proofs.Named.{between, named_address, named_dp, named_status, named_extra, named_wide, named_ldst, named_media}
 use Rattle.encode_words.proofs.Named.{named_block}
 use Rattle.encode_words.proofs.Named.{named_preload, named_barrier, named_halfword, named_coproc}

@@ -6,7 +6,7 @@ use Prim.Native.Nat.{ℕ}
 use native.Mathlib.Numerals.{add-one}
 use native.Mathlib.Omega.{arith}
 use lib.ListN.{length, length-append}
-use Rattle.section.specs.Section.{opened_of}
+use Rattle.section.specs.Section.{opening_of}
 use Rattle.section.specs.declared.Opened.{Opened}
 use Rattle.section.proofs.Accepted as accepted
 use Rattle.home_form.specs.Home.{gathered}
@@ -23,7 +23,6 @@ overflow_add-changes c =
       fits = omega (
         arith,
         now.invariant.0,
-        now.invariant.1,
         few_changes s now.place,
         (accepted.opened s).few,
         c.one-changes.ensures,
@@ -39,8 +38,7 @@ overflow_add-unindexed c =
     record {
       fits = omega (
         arith,
-        now.invariant.0,
-        now.invariant.2,
+        now.invariant.1,
         few_unindexed (gathered (changes_at s) now.place),
         few_changes s now.place,
         (accepted.opened s).few,
@@ -55,12 +53,11 @@ loop-place-preserved c =
     let now = c.loop-place in
     let s = c.args.section.now in
     let before = gathered (changes_at s) now.place in
-    let same = read_there s now.place c.read-step.ensures c.change_at-change.ensures in (
-      omega (arith, c.loop-place-test.true, ap (λ (o : Opened). o.count) c.requires),
+    let same = read_there s now.place c.read.ensures c.change_at-change.ensures in (
       rw (add-one now.place)
-          (omega (arith, now.invariant.1, c.one-changes.ensures, ap (λ (l : List Change). length l) same, length-append before (changes_at s now.place))),
+          (omega (arith, now.invariant.0, c.one-changes.ensures, ap (λ (l : List Change). length l) same, length-append before (changes_at s now.place))),
       rw (add-one now.place)
-          (omega (arith, now.invariant.2, c.one_unindexed-unindexed.ensures, ap unindexed_among same, unindexed_append before (changes_at s now.place))),
+          (omega (arith, now.invariant.1, c.one_unindexed-unindexed.ensures, ap unindexed_among same, unindexed_append before (changes_at s now.place))),
     )
 
 pub returns : goal.returns
@@ -68,8 +65,8 @@ unfolding changes_of
 returns c =
     let now = c.loop-place in
     let s = c.args.section.now in
-    let end : now.place ≡ (opened_of s).count = omega (arith, now.invariant.0, c.loop-place-test.false, ap (λ (o : Opened). o.count) c.requires) in
+    let end : now.place ≡ (opening_of s).count = omega (arith, ap (λ (o : Opened). o.count) c.requires) in
     cc (
-      now.invariant.1 ∙ ap (λ (n : ℕ). length (gathered (changes_at s) n)) end,
-      now.invariant.2 ∙ ap (λ (n : ℕ). unindexed_among (gathered (changes_at s) n)) end,
+      now.invariant.0 ∙ ap (λ (n : ℕ). length (gathered (changes_at s) n)) end,
+      now.invariant.1 ∙ ap (λ (n : ℕ). unindexed_among (gathered (changes_at s) n)) end,
     )

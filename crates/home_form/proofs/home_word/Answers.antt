@@ -1,6 +1,8 @@
 -- `home_form::home_word` meets its contract. Assumes nothing.
-use Rattle.home_form.proofs.Homes.{own}
+use mathlib.Core.Path.{ap, ◌∙◌}
+use Rattle.std.specs.Result.{result_unwrap_or}
+use Rattle.home_form.proofs.Homes.{own_or_home}
 use Rattle.home_form.proofs.home_word.Goals as goal
 
-pub returns-else-answer-eq0 : goal.returns-else-answer-eq0
-returns-else-answer-eq0 c = own _ c.home_with-answer.ensures c.if-answer-eq0.false
+pub returns : goal.returns
+returns c = c.unwrap_or.ensures ∙ ap (λ x. result_unwrap_or x c.args.w) c.home_with.ensures ∙ own_or_home c.args.w

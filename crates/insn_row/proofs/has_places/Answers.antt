@@ -32,13 +32,10 @@ has_operand-requires c =
 pub returns-then-not-has_operand : goal.returns-then-not-has_operand
 returns-then-not-has_operand c =
     let loop = c.loop-n in
-    unequal _ c.args.i.ops loop.n (omega arith) loop.invariant.1 c.has_operand.ensures
+    unequal _ c.args.i.ops loop.n (omega arith) loop.invariant c.has_operand.ensures
     (c.if-not-has_operand.true)
 
 pub loop-n-preserved : goal.loop-n-preserved
 loop-n-preserved c =
-    let loop = c.loop-n in (
-      omega arith,
-      equal _ c.args.i.ops loop.n (omega arith) loop.invariant.1 c.has_operand.ensures
-          (c.if-not-has_operand.false),
-    )
+    let loop = c.loop-n in
+    equal _ c.args.i.ops loop.n (omega arith) loop.invariant c.has_operand.ensures (c.if-not-has_operand.false)

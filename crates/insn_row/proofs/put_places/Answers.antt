@@ -7,7 +7,7 @@ use Rattle.insn_row.specs.Row.{operand_row}
 use Rattle.insn_row.proofs.put_places.Goals as goal
 
 pub loop-n-init : goal.loop-n-init
-loop-n-init c = (omega arith, refl, none _ _)
+loop-n-init c = (refl, none _ _)
 
 pub put_operand-at-requires : goal.put_operand-at-requires
 put_operand-at-requires c =
@@ -15,8 +15,8 @@ put_operand-at-requires c =
     omega (
       arith,
       c.requires,
-      loop.invariant.1,
-      loop.invariant.2.ends,
+      loop.invariant.0,
+      loop.invariant.1.ends,
       one_fits operand_row c.args.i.ops loop.n (omega arith),
     )
 
@@ -24,7 +24,6 @@ pub loop-n-preserved : goal.loop-n-preserved
 loop-n-preserved c =
     let loop = c.loop-n in
     let put = c.put_operand-at in (
-      omega arith,
-      put.auto.out ∙ loop.invariant.1,
-      rw (one_more operand_row c.args.i.ops loop.n (omega arith)) (loop.invariant.2 then put.ensures),
+      put.auto.out ∙ loop.invariant.0,
+      rw (one_more operand_row c.args.i.ops loop.n (omega arith)) (loop.invariant.1 then put.ensures),
     )

@@ -16,7 +16,7 @@ use Rattle.insn_value.proofs.places_from.Goals.{then-number-ne0, else-number-ne0
 -- the invariant, at the places and the number that a turn leaves
 abbrev invariant_loop : List ℕ → List Place → ℕ → List Place → ℕ → Type 0
 invariant_loop row ops₀ n₀ ops n =
-    (n ≤ PLACES) × (length ops ≡ PLACES) × (take n ops ≡ places_from row n) × ((p : ℕ) → n ≤ p → p < PLACES → place_at ops p ≡ unused)
+    (length ops ≡ PLACES) × (take n ops ≡ places_from row n) × ((p : ℕ) → n ≤ p → p < PLACES → place_at ops p ≡ unused)
 
 -- after place n
 module _ (row : List ℕ) (ops : List Place) (n : ℕ) (inv : invariant_loop row ops n ops n) (below : n < PLACES) where
@@ -24,22 +24,20 @@ module _ (row : List ℕ) (ops : List Place) (n : ℕ) (inv : invariant_loop row
   Goes l = invariant_loop row l n l (n + 1)
 
   there : n < length ops
-  there = rw inv.1 below
+  there = rw inv.0 below
 
   filled : {o : Operand} → o ≡ operand_from row (5 + 11 * n) → Goes (set ops n (used o))
   filled {o} is = (
-    omega arith,
-    length-set ops n (used o) ∙ inv.1,
-    rw (add-one n, take-suc-set ops n (used o) there, inv.2, is),
-    λ p after last. get_or-set_other ops n p (used o) unused (λ e. omega arith) ∙ inv.3 p (omega arith) last,
+    length-set ops n (used o) ∙ inv.0,
+    rw (add-one n, take-suc-set ops n (used o) there, inv.1, is),
+    λ p after last. get_or-set_other ops n p (used o) unused (λ e. omega arith) ∙ inv.2 p (omega arith) last,
   )
 
   left : get_or row (5 + 11 * n) 0 ≡ 0 → Goes ops
   left none = (
-    omega arith,
-    inv.1,
-    rw (add-one n, take-suc ops n unused there, inv.2, inv.3 n (omega arith) below, none),
-    λ p after. inv.3 p (omega arith),
+    inv.0,
+    rw (add-one n, take-suc ops n unused there, inv.1, inv.2 n (omega arith) below, none),
+    λ p after. inv.2 p (omega arith),
   )
 
 pub loop-n-preserved : goal.loop-n-preserved

@@ -8,16 +8,16 @@ use Rattle.line.proofs.put_answered.Goals as goal
 pub put_address-at-requires : goal.put_address-at-requires
 put_address-at-requires c = unfold line_text in omega (arith, simp length-append at c.requires)
 
-pub put_byte-at-requires : goal.put_byte-at-requires
-put_byte-at-requires c = unfold line_text in omega (arith, simp length-append at c.requires)
+pub put_one-at-requires : goal.put_one-at-requires
+put_one-at-requires c = unfold line_text in omega (arith, simp length-append at c.requires)
 
 pub put_hex-at-requires-clause-room : goal.put_hex-at-requires-clause-room
 unfolding line_text
 put_hex-at-requires-clause-room c = omega (arith, simp length-append at c.requires)
 
-pub put_byte-at-requires-2 : goal.put_byte-at-requires-2
+pub put_one-at-requires-2 : goal.put_one-at-requires-2
 unfolding line_text
-put_byte-at-requires-2 c =
+put_one-at-requires-2 c =
     omega (
       arith,
       simp length-append at c.requires,
@@ -31,9 +31,9 @@ put_answer-at-requires c =
       simp length-append at c.requires,
     )
 
-pub put_byte-requires : goal.put_byte-requires
+pub put_one-requires : goal.put_one-requires
 unfolding line_text
-put_byte-requires c =
+put_one-requires c =
     omega (
       arith,
       simp length-append at c.requires,
@@ -42,8 +42,8 @@ put_byte-requires c =
 pub returns : goal.returns
 returns c = unfold line_text in
     c.put_address-at.ensures
-    then c.put_byte-at.ensures
+    then c.put_one-at.ensures
     then c.put_hex-at.ensures
-    then c.put_byte-at-2.ensures
+    then c.put_one-at-2.ensures
     then c.put_answer-at.ensures
-    then c.put_byte.ensures
+    then c.put_one.ensures

@@ -11,9 +11,9 @@ put_name-at-requires c = unfold insn_text in omega (arith, simp length-append at
 pub put_places-at-requires : goal.put_places-at-requires
 put_places-at-requires c = unfold insn_text in omega (arith, simp length-append at c.requires)
 
-pub put_byte-at-requires : goal.put_byte-at-requires
+pub put_one-at-requires : goal.put_one-at-requires
 unfolding insn_text
-put_byte-at-requires c =
+put_one-at-requires c =
     omega (arith, simp length-append at c.requires)
 
 pub put_flow-requires : goal.put_flow-requires
@@ -26,4 +26,4 @@ put_flow-requires c =
 
 pub returns : goal.returns
 returns c = unfold insn_text in
-    c.put_name-at.ensures then c.put_places-at.ensures then c.put_byte-at.ensures then c.put_flow.ensures
+    c.put_name-at.ensures then c.put_places-at.ensures then c.put_one-at.ensures then c.put_flow.ensures

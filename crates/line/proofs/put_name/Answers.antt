@@ -26,8 +26,8 @@ pub put_suffix-at-requires : goal.put_suffix-at-requires
 put_suffix-at-requires c = unfold name_text in
     omega (arith, ap (λ (n : ℕ). length (entry roots n)) c.stem-root.ensures, simp length-append at c.requires)
 
-pub put_byte-requires : goal.put_byte-requires
-put_byte-requires c = unfold name_text in
+pub put_one-requires : goal.put_one-requires
+put_one-requires c = unfold name_text in
     let known = c.stem-root.ensures in
     omega (
       arith,
@@ -45,4 +45,4 @@ pub returns-else-root-name : goal.returns-else-root-name
 returns-else-root-name c = unfold name_text in
     let known = c.stem-root.ensures in
     rw (tail _ (λ e. c.if-root-name.false (known ∙ e)))
-    (rw known at c.put_root-at.ensures then c.put_suffix-at.ensures then c.put_byte.ensures)
+    (rw known at c.put_root-at.ensures then c.put_suffix-at.ensures then c.put_one.ensures)

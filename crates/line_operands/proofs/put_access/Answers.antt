@@ -4,8 +4,8 @@ use Rattle.line_operands.proofs.put_access.Goals as goal
 
 pub returns : goal.returns
 returns c =
-    c.put_byte-at.ensures
+    c.put_one-at.ensures
     then c.put_mode-at.ensures
-    then c.put_byte-at-2.ensures
+    then c.put_one-at-2.ensures
     then c.put_decimal-at.ensures
-    then c.put_byte.ensures
+    then c.put_one.ensures

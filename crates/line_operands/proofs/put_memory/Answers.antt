@@ -23,15 +23,15 @@ regroup a b c d e f = simp append_assoc
 parted : (m : Mem) → memory_text m ≡ address m ++ access m
 parted m = unfold memory_text in regroup (address m) (bytes ":") (mode_text m.mode) (bytes ":") (decimal_of m.size) (bytes "]")
 
-pub put_byte-at-requires : goal.put_byte-at-requires
-put_byte-at-requires c = unfold memory_text in omega (arith, simp length-append at c.requires)
+pub put_one-at-requires : goal.put_one-at-requires
+put_one-at-requires c = unfold memory_text in omega (arith, simp length-append at c.requires)
 
 pub put_register-at-requires : goal.put_register-at-requires
 put_register-at-requires c = unfold memory_text in omega (arith, simp length-append at c.requires)
 
-pub put_byte-at-requires-2 : goal.put_byte-at-requires-2
+pub put_one-at-requires-2 : goal.put_one-at-requires-2
 unfolding memory_text
-put_byte-at-requires-2 c =
+put_one-at-requires-2 c =
     omega (arith, simp length-append at c.requires)
 
 pub put_index-at-requires : goal.put_index-at-requires
@@ -42,9 +42,9 @@ put_index-at-requires c =
       simp length-append at c.requires,
     )
 
-pub put_byte-at-requires-3 : goal.put_byte-at-requires-3
+pub put_one-at-requires-3 : goal.put_one-at-requires-3
 unfolding memory_text
-put_byte-at-requires-3 c =
+put_one-at-requires-3 c =
     omega (
       arith,
       simp length-append at c.requires,
@@ -70,10 +70,10 @@ put_access-requires c =
 pub returns : goal.returns
 returns c =
     rw (parted c.args.m)
-    (c.put_byte-at.ensures
+    (c.put_one-at.ensures
     then c.put_register-at.ensures
-    then c.put_byte-at-2.ensures
+    then c.put_one-at-2.ensures
     then c.put_index-at.ensures
-    then c.put_byte-at-3.ensures
+    then c.put_one-at-3.ensures
     then c.put_displacement-at.ensures
     then c.put_access.ensures)

@@ -13,20 +13,20 @@ pub returns-in-Shifted : goal.returns-in-Shifted
 returns-in-Shifted c = unfold operand_text in
     rw c.in-Shifted.is
     (c.put_register-at.ensures
-    then c.put_byte-at.ensures
+    then c.put_one-at.ensures
     then c.put_shift-at.ensures
-    then c.put_byte-at-in-Shifted.ensures
+    then c.put_one-at-in-Shifted.ensures
     then c.put_decimal.ensures)
 
 pub returns-in-ShiftBy : goal.returns-in-ShiftBy
 returns-in-ShiftBy c = unfold operand_text in
     rw c.in-ShiftBy.is
-    (c.put_shift-at-in-ShiftBy.ensures then c.put_byte-at-in-ShiftBy.ensures then c.put_register-in-ShiftBy.ensures)
+    (c.put_shift-at-in-ShiftBy.ensures then c.put_one-at-in-ShiftBy.ensures then c.put_register-in-ShiftBy.ensures)
 
 pub returns-in-SaturateShift : goal.returns-in-SaturateShift
 returns-in-SaturateShift c = unfold operand_text in
     rw c.in-SaturateShift.is
-    (c.put_shift-at-in-SaturateShift.ensures then c.put_byte-at-in-SaturateShift.ensures then c.put_decimal-in-SaturateShift.ensures)
+    (c.put_shift-at-in-SaturateShift.ensures then c.put_one-at-in-SaturateShift.ensures then c.put_decimal-in-SaturateShift.ensures)
 
 pub returns-in-Rotate : goal.returns-in-Rotate
 returns-in-Rotate c = unfold operand_text in
@@ -36,25 +36,25 @@ returns-in-Rotate c = unfold operand_text in
 pub returns-in-Count : goal.returns-in-Count
 returns-in-Count c = unfold operand_text in
     rw c.in-Count.is
-    (c.put_byte-at-in-Count.ensures
+    (c.put_one-at-in-Count.ensures
     then rw (to_z-of_z w64 c.in-Count.v (search rules)) at c.put_signed.ensures)
 
 pub returns-in-Number : goal.returns-in-Number
 returns-in-Number c = unfold operand_text in
     rw c.in-Number.is
-    (c.put_byte-at-in-Number.ensures then c.put_decimal-in-Number.ensures)
+    (c.put_one-at-in-Number.ensures then c.put_decimal-in-Number.ensures)
 
 pub returns-in-WriteBack : goal.returns-in-WriteBack
 returns-in-WriteBack c = unfold operand_text in
     rw c.in-WriteBack.is
-    (c.put_register-at-in-WriteBack.ensures then c.put_byte.ensures)
+    (c.put_register-at-in-WriteBack.ensures then c.put_one.ensures)
 
 pub returns-in-List : goal.returns-in-List
 returns-in-List c = unfold operand_text in
     rw c.in-List.is
-    (c.put_byte-at-in-List.ensures then c.put_hex-at.ensures then c.put_byte-in-List.ensures)
+    (c.put_one-at-in-List.ensures then c.put_hex-at.ensures then c.put_one-in-List.ensures)
 
 pub returns-in-Address : goal.returns-in-Address
 returns-in-Address c = unfold operand_text in
     rw c.in-Address.is
-    (c.put_byte-at-in-Address.ensures then c.put_hex.ensures)
+    (c.put_one-at-in-Address.ensures then c.put_hex.ensures)

@@ -7,7 +7,7 @@ use Rattle.line_spelling.specs.Line.{place_text}
 use Rattle.line_operands.proofs.put_places.Goals as goal
 
 pub loop-n-init : goal.loop-n-init
-loop-n-init c = (omega arith, refl, none _ _)
+loop-n-init c = (refl, none _ _)
 
 pub put_place-at-requires : goal.put_place-at-requires
 put_place-at-requires c =
@@ -15,17 +15,16 @@ put_place-at-requires c =
     omega (
       arith,
       c.requires,
-      loop.invariant.1,
-      loop.invariant.2.ends,
+      loop.invariant.0,
+      loop.invariant.1.ends,
       one_fits place_text c.args.ops loop.n
-          (omega (arith, c.well_formed.1.1.0.1.0.1)),
+          (omega arith),
     )
 
 pub loop-n-preserved : goal.loop-n-preserved
 loop-n-preserved c =
     let loop = c.loop-n in
     let put = c.put_place-at in (
-      omega arith,
-      put.auto.out ∙ loop.invariant.1,
-      rw (one_more place_text c.args.ops loop.n (omega (arith, c.well_formed.1.1.0.1.0.1))) (loop.invariant.2 then put.ensures),
+      put.auto.out ∙ loop.invariant.0,
+      rw (one_more place_text c.args.ops loop.n (omega arith)) (loop.invariant.1 then put.ensures),
     )

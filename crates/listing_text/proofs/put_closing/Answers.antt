@@ -47,9 +47,9 @@ put_last_count-at-requires c =
       simp length-append at c.requires.room,
     )
 
-pub put_byte-requires : goal.put_byte-requires
+pub put_one-requires : goal.put_one-requires
 unfolding closing_of
-put_byte-requires c =
+put_one-requires c =
     omega (
       arith,
       c.put_last_count-at.ensures.ends,
@@ -69,4 +69,4 @@ returns c = unfold closing_of in
     then c.put_count-at-2.ensures
     then c.put_count-at-3.ensures
     then c.put_last_count-at.ensures
-    then c.put_byte.ensures
+    then c.put_one.ensures

@@ -9,9 +9,9 @@ pub put_hex-at-requires-clause-room : goal.put_hex-at-requires-clause-room
 unfolding data_line
 put_hex-at-requires-clause-room c = omega (arith, simp length-append at c.requires)
 
-pub put_byte-at-requires : goal.put_byte-at-requires
+pub put_one-at-requires : goal.put_one-at-requires
 unfolding data_line
-put_byte-at-requires c = omega (arith, simp length-append at c.requires)
+put_one-at-requires c = omega (arith, simp length-append at c.requires)
 
 pub put_hex-at-requires-2-clause-room : goal.put_hex-at-requires-2-clause-room
 unfolding data_line
@@ -23,4 +23,4 @@ put-requires c = omega (arith, simp length-append at c.requires)
 
 pub returns : goal.returns
 returns c = unfold data_line in
-    c.put_hex-at.ensures then c.put_byte-at.ensures then c.put_hex-at-2.ensures then c.put.ensures
+    c.put_hex-at.ensures then c.put_one-at.ensures then c.put_hex-at-2.ensures then c.put.ensures

@@ -5,5 +5,5 @@ use Rattle.manual_flows.proofs.flow_of.Goals as goal
 pub returns-then-opens : goal.returns-then-opens
 returns-then-opens c addr = unknown_is _ _ c.brassdozen_manual_row-n.ensures addr (cc)
 
-pub returns : goal.returns
-returns c addr = known_is _ _ c.brassdozen_manual_row-n.ensures addr (cc) (c.number.ensures addr)
+pub returns-else-opens : goal.returns-else-opens
+returns-else-opens c addr = known_is _ _ c.brassdozen_manual_row-n.ensures addr (cc) (c.number.ensures addr)

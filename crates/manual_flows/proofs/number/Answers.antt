@@ -1,6 +1,5 @@
 -- `manual_flows::number` meets its contract. Assumes nothing.
-use mathlib.Core.Path.{ap, ◌∙◌}
-use Prim.Native.Nat.{ℕ}
+use Rattle.std.proofs.Common.{ap, ◌∙◌, ℕ}
 use Rattle.manual_tables.specs.Titles.{title_at}
 use Rattle.manual_flows.specs.Flows.{writers, control_number, control_by, control_as}
 use Rattle.manual_flows.proofs.Letters.{some_letter, kind_is}

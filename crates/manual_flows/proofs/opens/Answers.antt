@@ -1,5 +1,5 @@
 -- `manual_flows::opens` meets its contract. Assumes nothing.
-use mathlib.Core.Path.{ap, ◌∙◌}
+use Rattle.std.proofs.Common.{ap, ◌∙◌}
 use Rattle.manual_tables.specs.Titles.{title_at}
 use Rattle.manual_flows.specs.Opens.{destinations, opens_by}
 use Rattle.manual_flows.specs.Opens as O

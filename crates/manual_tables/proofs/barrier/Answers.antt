@@ -1,10 +1,5 @@
 -- `tables::barrier` meets its contract. Assumes nothing.
-use mathlib.Core.Path.{◌≡◌}
-use mathlib.Core.Bool.{Bool, true}
-use mathlib.Core.List.{List, [], ◌∷◌}
-use Prim.Native.Nat.{ℕ, ◌*◌, ◌^◌}
-use borrow.Author.Tests.{eqb-true, eq-eqb}
-use lib.Dec.{eqb}
+use Rattle.std.proofs.Common.{◌≡◌, Bool, true, List, [], ◌∷◌, ℕ, ◌*◌, ◌^◌, eqb-true, eq-eqb, eqb}
 use Rattle.word.specs.Field.{field}
 use Rattle.manual.specs.A5 as A5
 use Rattle.manual_tables.specs.Titles.{number_of}

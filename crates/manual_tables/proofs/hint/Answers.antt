@@ -1,10 +1,5 @@
 -- `tables::hint` meets its contract. Assumes nothing.
-use mathlib.Core.Path.{◌≡◌}
-use mathlib.Core.Bool.{Bool, true}
-use mathlib.Core.List.{List, [], ◌∷◌}
-use Prim.Native.Nat.{ℕ}
-use borrow.Author.Tests.{eqb-true}
-use lib.Dec.{eqb}
+use Rattle.std.proofs.Common.{◌≡◌, Bool, true, List, [], ◌∷◌, ℕ, eqb-true, eqb}
 use Rattle.word.specs.Choice.{both}
 use Rattle.word.specs.Field.{field}
 use Rattle.manual.specs.A5 as A5

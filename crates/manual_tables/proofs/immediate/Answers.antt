@@ -1,11 +1,6 @@
 -- `tables::immediate` meets its contract. Assumes nothing.
-use mathlib.Core.Path.{◌≡◌}
-use mathlib.Core.Bool.{Bool, true}
-use mathlib.Core.List.{List, [], ◌∷◌}
-use Prim.Native.Nat.{ℕ, ◌^◌}
+use Rattle.std.proofs.Common.{◌≡◌, Bool, true, List, [], ◌∷◌, ℕ, ◌^◌, eqb-true, eq-eqb, eqb}
 use Prim.Native.String.{String}
-use borrow.Author.Tests.{eqb-true, eq-eqb}
-use lib.Dec.{eqb}
 use Rattle.word.specs.Choice.{pick, by_test}
 use Rattle.word.specs.Field.{field}
 use Rattle.manual.specs.A5 as A5

@@ -1,11 +1,9 @@
 -- `tables::parallel_unsigned` meets its contract. Assumes nothing.
-use mathlib.Core.Path.{◌≡◌}
-use mathlib.Core.List.{List, [], ◌∷◌}
-use Prim.Native.Nat.{ℕ}
+use Rattle.std.proofs.Common.{◌≡◌, refl, List, [], ◌∷◌, ℕ}
 use Rattle.word.specs.Field.{field}
 use Rattle.manual.specs.A5 as A5
 use Rattle.manual_tables.specs.Titles.{number_of}
-use Rattle.manual_tables.proofs.Place.{Column, bits, Same, then, looked}
+use Rattle.manual_tables.proofs.Place.{Column, bits, Same, looked}
 use Rattle.manual_tables.proofs.parallel_unsigned.Goals as goal
 
 abbrev columns : List Column
@@ -17,6 +15,4 @@ depends w w' (a, (b, end)) = simp (a, b)
 
 pub returns : goal.returns
 unfolding field number_of A5.parallel_unsigned
-returns c =
-    looked A5.parallel_unsigned columns 159 depends tt c.args.w (then 8 c.column.ensures.0
-    c.column-2.ensures.0) c.title.ensures
+returns c = looked A5.parallel_unsigned columns 159 depends tt c.args.w refl c.parallel.ensures

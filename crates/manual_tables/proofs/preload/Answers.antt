@@ -1,10 +1,6 @@
 -- `tables::preload` meets its contract. Assumes nothing.
-use mathlib.Core.Path.{◌≡◌, refl}
-use mathlib.Core.Bool.{Bool, true}
-use mathlib.Core.List.{List, [], ◌∷◌}
-use Prim.Native.Nat.{ℕ}
+use Rattle.std.proofs.Common.{◌≡◌, refl, Bool, true, List, [], ◌∷◌, ℕ, eqb}
 use Prim.Native.String.{String}
-use lib.Dec.{eqb}
 use Rattle.word.specs.Choice.{pick, by_test}
 use Rattle.word.specs.Field.{field}
 use Rattle.manual.specs.A5 as A5

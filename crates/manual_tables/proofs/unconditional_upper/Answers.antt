@@ -1,11 +1,5 @@
 -- `tables::unconditional_upper` meets its contract. Assumes nothing.
-use mathlib.Core.Path.{◌≡◌}
-use mathlib.Core.Bool.{Bool, true}
-use mathlib.Core.List.{List, [], ◌∷◌}
-use Prim.Native.Nat.{ℕ, ◌+◌, ◌/◌, ◌%◌, ◌^◌}
-use native.Mathlib.Omega.{arith}
-use borrow.Author.Tests.{eqb-true, eq-eqb}
-use lib.Dec.{eqb}
+use Rattle.std.proofs.Common.{◌≡◌, Bool, true, List, [], ◌∷◌, ℕ, ◌+◌, ◌/◌, ◌%◌, ◌^◌, arith, eqb-true, eq-eqb, eqb}
 use Rattle.word.specs.Field.{field, small}
 use Rattle.manual.specs.A5 as A5
 use Rattle.manual_tables.specs.Titles.{number_of}

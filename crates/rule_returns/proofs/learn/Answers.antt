@@ -3,13 +3,18 @@ use mathlib.Core.Path.{sym, ◌∙◌}
 use native.Mathlib.Omega.{arith}
 use Rattle.walk_marks.specs.Marks.{marks_of}
 use Rattle.walk_marks.proofs.Marks.{length_marks}
-use Rattle.rule_returns.proofs.Rounds.{other_one, new_one}
+use Rattle.rule_returns.proofs.Rounds.{known_one, other_one, new_one}
 use Rattle.rule_returns.proofs.learn.Goals as goal
+use Rattle.rule_returns.proofs.learn.Goals.{then-get-via-then-get, then-get-via-else-get+then-not-once_past}
 
-pub returns-then-not-once_past : goal.returns-then-not-once_past
-returns-then-not-once_past c =
+pub returns-then-get : goal.returns-then-get
+returns-then-get c =
     let a = c.args in
-    λ entries. other_one (marks_of a.known.now) a.i _ (c.once_past.ensures entries) c.if-not-once_past.true
+    λ entries. elim c.then-get.branch [
+      | then-get-via-then-get w ↦ known_one (marks_of a.known.now) a.i (sym c.get.ensures ∙ w.if-get.true)
+      | then-get-via-else-get+then-not-once_past w ↦
+          other_one (marks_of a.known.now) a.i _ (w.once_past.ensures entries) w.if-not-once_past.true
+    ]
 
 pub returns : goal.returns
 returns c =

@@ -1,28 +1,28 @@
--- `rule_returns::settle` meets its contract. The loop's invariant: what the table says holds, and when nothing was new, it has all that follows from
--- it.
--- The measure: each round sets a mark, or is the last. Assumes nothing.
-use mathlib.Core.Path.{refl, ◌∙◌}
+-- `rule_returns::settle` meets its contract. The loop's invariant: what the table says holds. The measure: each round sets a mark. Assumes nothing.
+use mathlib.Core.Path.{◌≡◌}
 use mathlib.Core.List.{[]}
-use Rattle.rule_runs.proofs.Tests.{true_false}
+use lib.ListN.{length}
+use Rattle.std.specs.Prelude.{replicate}
+use Rattle.rule_returns.proofs.Filling.{filled}
 use Rattle.rule_returns.proofs.Rounds.{none_said, all_closed, fewer}
 use Rattle.rule_returns.proofs.settle.Goals as goal
 
-pub loop-more-init : goal.loop-more-init
-loop-more-init c = let cleared = c.clear in (refl, λ entries. (none_said _ _ cleared.ensures, λ e. true_false e))
+pub loop-init : goal.loop-init
+loop-init c =
+    let zeros : c.fill.new.self ≡ replicate (length c.args.known.now) 0 = c.fill.ensures.after (λ y e. e) in
+    λ entries. none_said _ _ (λ j. rw zeros (filled (length c.args.known.now) 0 j))
 
-pub loop-more-smaller : goal.loop-more-smaller
-loop-more-smaller c = let now = c.loop-more in fewer now.known _ c.round-more.auto.known c.loop-more-test.true (c.round-more.ensures [])
+pub loop-smaller : goal.loop-smaller
+loop-smaller c = fewer c.loop.known c.round.new.known c.round.auto.known c.loop-test.true (c.round.ensures [])
 
-pub loop-more-preserved : goal.loop-more-preserved
-loop-more-preserved c =
-    let now = c.loop-more in
-    let a = c.args in (
-      c.round-more.auto.known ∙ now.invariant.0,
-      λ entries. (
-        (c.round-more.ensures entries).sound (now.invariant.1 entries).0,
-        λ e. all_closed a.flags.now a.targets.now a.further.now entries (c.round-more.ensures entries) e,
-      ),
-    )
+pub loop-preserved : goal.loop-preserved
+loop-preserved c = λ entries. (c.round.ensures entries).sound (c.loop.invariant entries)
 
 pub returns : goal.returns
-returns c = λ entries. record { sound = (c.loop-more.invariant.1 entries).0; closed = (c.loop-more.invariant.1 entries).1 c.loop-more-test.false }
+returns c =
+    let program = c.args.program in
+    λ entries.
+    let passed = c.round.ensures entries in record {
+      sound = passed.sound (c.loop.invariant entries);
+      closed = all_closed program.flags.now program.targets.now program.further.now entries passed c.loop-test.false;
+    }

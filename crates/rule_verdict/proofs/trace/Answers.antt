@@ -1,8 +1,10 @@
--- `rule_verdict::trace` meets its contract. The loop's invariant: the places behind `i` are written, and `y` is the node at `i`. Assumes nothing.
-use mathlib.Core.Path.{◌≡◌, ap, ◌∙◌}
-use Prim.Native.Nat.{ℕ, suc, ◌-◌}
+-- `rule_verdict::trace` meets its contract. The loop's invariant: the places from `i` on are written, and `y` is the node before them.
+-- Assumes nothing.
+use mathlib.Core.Path.{◌≡◌, ap}
+use Prim.Native.Nat.{ℕ, suc, ◌+◌, ◌-◌}
 use native.Mathlib.Omega.{arith}
-use lib.ListN.{get_or, length-set}
+use lib.ListN.{get_or}
+use Rattle.rule_verdict.specs.Parts.{back}
 use Rattle.rule_verdict.proofs.Looking.{write_on}
 use Rattle.rule_verdict.proofs.trace.Goals as goal
 
@@ -10,13 +12,12 @@ pub loop-i-preserved : goal.loop-i-preserved
 loop-i-preserved c =
     let now = c.loop-i in
     let a = c.args in
-    let below = c.loop-i-test.true in
+    let i = now.i - 1 in
     let F = a.from.now in
-    let (written, rest) = write_on F a.x a.d a.way.now now.way now.i now.y now.invariant.0 (omega (arith, now.invariant.0, now.invariant.1, c.requires.1)) now.invariant.2 now.invariant.3 now.invariant.4 in
-    let next : a.d - (now.i - 1) ≡ suc (a.d - now.i) = omega (arith, now.invariant.0) in (
-      omega (arith, now.invariant.0),
-      length-set now.way now.i _ ∙ now.invariant.1,
-      rw next (ap (λ (z : ℕ). get_or F z 0) now.invariant.2),
-      (λ j l u. written j (omega arith) u),
-      rest,
-    )
+    let more = c.loop-i-test.true in
+    let same : a.d + 1 - now.i ≡ a.d - i = omega (arith, more, now.auto.i) in
+    let next : a.d + 1 - i ≡ suc (a.d - i) = omega (arith, more, now.auto.i) in
+    let here : now.y ≡ back F a.x (a.d - i) = rw same at now.invariant.0 in
+    let (written, rest) = write_on F a.x a.d a.way.now now.way i now.y (omega (arith, more, now.auto.i)) (omega (arith, more, now.auto.i, now.auto.way, c.requires.1))
+    here (λ j l u. now.invariant.1 j (omega (arith, more)) u) now.invariant.2 in
+    (rw next (ap (λ (z : ℕ). get_or F z 0) here), written, rest)

@@ -32,7 +32,7 @@ returns-then-not-follows c =
     let bad =
     rw c.range_at-range.ensures at (sym c.follows.ensures ∙ c.if-not-follows.true) in
     sym (not_more args.bytes.now args.ranges args.count c.if-ranges-gt-MOST_RANGES.false
-    ∙ now.invariant.1
+    ∙ now.invariant
     ∙ breaks args.bytes.now args.ranges now.i args.count now.from (omega arith) bad)
 
 pub loop-i-preserved : goal.loop-i-preserved
@@ -40,17 +40,15 @@ loop-i-preserved c =
     let now = c.loop-i in
     let args = c.args in
     let found = c.range_at-range.ensures in
-    let good = rw found at (sym c.follows.ensures ∙ c.if-not-follows.false) in (
-      omega arith,
-      now.invariant.1
-          ∙ rw (c.end-from.ensures, found)
-          (keeps args.bytes.now args.ranges now.i args.count now.from (omega arith) good),
-    )
+    let good = rw found at (sym c.follows.ensures ∙ c.if-not-follows.false) in
+    now.invariant
+    ∙ rw (c.end-from.ensures, found)
+    (keeps args.bytes.now args.ranges now.i args.count now.from (omega arith) good)
 
 pub returns : goal.returns
 returns c =
     let now = c.loop-i in
     let args = c.args in
     sym (not_more args.bytes.now args.ranges args.count c.if-ranges-gt-MOST_RANGES.false
-    ∙ now.invariant.1
+    ∙ now.invariant
     ∙ all_kept args.bytes.now args.ranges now.i args.count now.from (omega arith))

@@ -4,13 +4,13 @@ use mathlib.Core.List.{List}
 use Prim.Native.Nat.{ℕ, ◌+◌, ◌*◌, ◌^◌, ◌<◌, ◌≤◌}
 use native.Mathlib.Omega.{arith}
 use lib.ListN.{length}
-use Rattle.section.specs.Section.{opened_of}
+use Rattle.section.specs.Section.{opening_of}
 use Rattle.section.specs.declared.Opened.{Opened}
 use Rattle.section.proofs.Accepted.{opened}
 use Rattle.section.proofs.here_at.Goals as goal
 
 -- a place before the end
-module _ (s : List ℕ) (o : Opened) (place : ℕ) (given : (o ≡ opened_of s) × (place < o.count)) where
+module _ (s : List ℕ) (o : Opened) (place : ℕ) (given : (o ≡ opening_of s) × (place < o.count)) where
   held : o.start + 4 * place + 4 ≤ length s
   held = omega (arith, given.1, (opened s).long, ap (λ (x : Opened). x.start) given.0, ap (λ (x : Opened). x.count) given.0)
 

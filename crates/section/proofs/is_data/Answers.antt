@@ -6,13 +6,13 @@ use Prim.Native.Nat.{ℕ, ◌-◌, ◌*◌, ◌≤◌}
 use native.Mathlib.Omega.{arith}
 use lib.ListN.{length}
 use Rattle.section.specs.Ranges.{in_order}
-use Rattle.section.specs.Section.{ranges_of, opened_of}
+use Rattle.section.specs.Section.{ranges_of, opening_of}
 use Rattle.section.specs.declared.Opened.{Opened}
 use Rattle.section.proofs.Accepted.{opened}
 use Rattle.section.proofs.Ruled.{starts_beyond, finds, goes_on, none_left_has}
 use Rattle.section.proofs.is_data.Goals as goal
 
-module _ (s : List ℕ) (o : Opened) (is : o ≡ opened_of s) where
+module _ (s : List ℕ) (o : Opened) (is : o ≡ opening_of s) where
   there : 8 * o.ranges ≤ length s - 11
   there = rw is (opened s).there
 
@@ -29,7 +29,7 @@ returns-then-place-range c =
     let s = c.args.bytes.now in
     let o = c.args.opened in
     let beyond = rw c.range_at-range.ensures at c.if-place-range.true in
-    sym (now.invariant.1
+    sym (now.invariant
     ∙ starts_beyond s o.ranges now.i c.args.place o.count (ordered s o c.requires) (omega arith) beyond)
 
 pub returns-then-place-end : goal.returns-then-place-end
@@ -38,7 +38,7 @@ returns-then-place-end c =
     let args = c.args in
     let after = rw c.range_at-range.ensures at c.if-place-range.false in
     let inside = rw (c.end.ensures, c.range_at-range.ensures) at c.if-place-end.true in
-    sym (now.invariant.1 ∙ finds args.bytes.now args.opened.ranges now.i args.place (omega arith) after inside)
+    sym (now.invariant ∙ finds args.bytes.now args.opened.ranges now.i args.place (omega arith) after inside)
 
 pub loop-i-preserved : goal.loop-i-preserved
 loop-i-preserved c =
@@ -46,10 +46,10 @@ loop-i-preserved c =
     let args = c.args in
     let after = rw c.range_at-range.ensures at c.if-place-range.false in
     let beyond = rw (c.end.ensures, c.range_at-range.ensures) at c.if-place-end.false in
-    (omega arith, now.invariant.1 ∙ goes_on args.bytes.now args.opened.ranges now.i args.place (omega arith) after beyond)
+    now.invariant ∙ goes_on args.bytes.now args.opened.ranges now.i args.place (omega arith) after beyond
 
 pub returns : goal.returns
 returns c =
     let now = c.loop-i in
     let args = c.args in
-    sym (now.invariant.1 ∙ none_left_has args.bytes.now args.opened.ranges now.i args.place (omega arith))
+    sym (now.invariant ∙ none_left_has args.bytes.now args.opened.ranges now.i args.place (omega arith))

@@ -1,7 +1,10 @@
 -- `tally::count_word` meets its contract: an accepted word's root has a count, and so has the number that one is refused with. Assumes nothing.
-use Rattle.std.proofs.Common.{◌≡◌, ℕ, ◌+◌, ◌<◌, ◌⊎◌, List, ap, ◌∙◌, ⊎_elim, arith}
+use Rattle.std.proofs.Common.{◌≡◌, ℕ, ◌+◌, ◌<◌, ◌⊎◌, List, Ok, Err, refl, ap, ◌∙◌, ⊎_elim, arith}
+use Rattle.word.specs.Refusal.{number, not_refused}
+use Rattle.word.specs.declared.refusal.Refusal.{Refusal}
+use Rattle.insn.specs.Answer.{Decoded}
 use Rattle.insn.specs.Roots.{NAMES}
-use Rattle.insn.specs.declared.Decoded.{Decoded}
+use Rattle.insn.specs.declared.Insn.{Insn}
 use Rattle.a32.specs.Decode.{decode_of}
 use Rattle.a32_every.proofs.Refusals.{two_or_three}
 use Rattle.line_spelling.proofs.FormedAll.{all_good}
@@ -12,36 +15,34 @@ use Rattle.tally.specs.Steps.{at, flow_and_root, one_of}
 use Rattle.tally.proofs.Steps.{in_turn, named_adds, refused_adds}
 use Rattle.tally.proofs.count_word.Goals as goal
 
-module _ (w addr : ℕ) {d : Decoded} (is : d ≡ decode_of w addr) where
-  small : d.refusal ≡ 0 → d.insn.name < NAMES
-  small ok = rw is ((all_good w addr).formed (rw is at ok)).named
+module _ (w addr : ℕ) where
+  small : {i : Insn} → Ok i ≡ decode_of w addr → i.name < NAMES
+  small is = rw (← is) at ((all_good w addr).formed (rw (← is) refl)).named
 
-  known : (d.refusal ≡ 0 → ⊥) → (d.refusal ≡ 2) ⊎ (d.refusal ≡ 3)
-  known bad = rw is (two_or_three w addr (rw is at bad))
+  known : {r : Refusal} → Err r ≡ decode_of w addr → (number r ≡ 2) ⊎ (number r ≡ 3)
+  known {r} is = rw (← is) at (two_or_three w addr (rw (← is) (λ none. not_refused r none)))
 
-  told : (counts : List ℕ) → plus (λ kind. one (word_is d kind)) counts ≡ plus (one_of (Word w addr)) counts
-  told counts = ap (λ (x : Decoded). plus (λ kind. one (word_is x kind)) counts) is
+  told : {d : Decoded} → d ≡ decode_of w addr → (counts : List ℕ) → plus (λ kind. one (word_is d kind)) counts ≡ plus (one_of (Word w addr)) counts
+  told is counts = ap (λ (x : Decoded). plus (λ kind. one (word_is x kind)) counts) is
 
 pub count_named-requires : goal.count_named-requires
 count_named-requires c =
-    (omega (arith, c.raise.auto.counts), small _ _ c.decode-d.ensures (omega arith))
+    (omega (arith, c.raise.auto.counts), small _ _ c.in-Ok.ensures)
 
-pub raise-requires-else-d-eq0 : goal.raise-requires-else-d-eq0
-raise-requires-else-d-eq0 c = (
+pub raise-requires-in-Err : goal.raise-requires-in-Err
+raise-requires-in-Err c = (
   omega (arith, c.raise.auto.counts),
-  ⊎_elim (λ e. omega arith) (λ e. omega arith) (known _ _ c.decode-d.ensures c.if-d-eq0.false),
+  ⊎_elim (λ e. omega (arith, c.number.ensures)) (λ e. omega (arith, c.number.ensures)) (known _ _ c.in-Err.ensures),
 )
 
-pub returns-then-d-eq0 : goal.returns-then-d-eq0
-returns-then-d-eq0 c =
-    let is = c.decode-d.ensures in
-    let d = c.decode-d.result in
+pub returns-in-Ok : goal.returns-in-Ok
+returns-in-Ok c =
+    let i = c.in-Ok.insn in
     rw (c.count_named.ensures, c.raise.ensures)
-    (in_turn (at 1) (flow_and_root d.insn) (named_adds d c.if-d-eq0.true) _ ∙ told _ _ is _)
+    (in_turn (at 1) (flow_and_root i) (named_adds (Ok i) refl) _ ∙ told _ _ c.in-Ok.ensures _)
 
-pub returns-else-d-eq0 : goal.returns-else-d-eq0
-returns-else-d-eq0 c =
-    let is = c.decode-d.ensures in
-    let d = c.decode-d.result in
-    rw (c.raise-else-d-eq0.ensures, c.raise.ensures)
-    (in_turn (at 1) (at (1 + d.refusal)) (refused_adds d (known _ _ is c.if-d-eq0.false)) _ ∙ told _ _ is _)
+pub returns-in-Err : goal.returns-in-Err
+returns-in-Err c =
+    let r = c.in-Err.refusal in
+    rw (c.raise-in-Err.ensures, c.raise.ensures, c.number.ensures)
+    (in_turn (at 1) (at (1 + number r)) (refused_adds (Err r) (known _ _ c.in-Err.ensures)) _ ∙ told _ _ c.in-Err.ensures _)

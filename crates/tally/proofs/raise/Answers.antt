@@ -5,6 +5,5 @@ use Rattle.tally.proofs.raise.Goals as goal
 
 pub returns : goal.returns
 returns c =
-    rw c.wrapping_add_u64.ensures.value
-    (raises c.args.place c.requires.1 c.args.counts.now c.requires.0
-    (λ i. omega (arith, c.slice_known-1.given i)))
+    raises c.args.place c.requires.1 c.args.counts.now c.requires.0
+    (λ i. omega (arith, c.slice_known-1.given i))

@@ -35,8 +35,8 @@ above {z = negsuc n} fits e =
     let clash : ◌≡◌ {A = ℕ} 0 1 = cc in
     absurd (omega arith)
 
-pub put_byte-at-requires : goal.put_byte-at-requires
-put_byte-at-requires c = omega (arith, ap length (below c.ranges.v c.if-v-lt0.true).1)
+pub put_one-at-requires : goal.put_one-at-requires
+put_one-at-requires c = omega (arith, ap length (below c.ranges.v c.if-v-lt0.true).1)
 
 pub put_decimal-requires : goal.put_decimal-requires
 put_decimal-requires c =
@@ -51,7 +51,7 @@ put_decimal-requires-else-v-lt0 c =
 pub returns-then-v-lt0 : goal.returns-then-v-lt0
 returns-then-v-lt0 c =
     let minus = below c.ranges.v c.if-v-lt0.true in
-    rw minus.1 (c.put_byte-at.ensures then rw minus.0 at c.put_decimal.ensures)
+    rw minus.1 (c.put_one-at.ensures then rw minus.0 at c.put_decimal.ensures)
 
 pub returns-else-v-lt0 : goal.returns-else-v-lt0
 returns-else-v-lt0 c =

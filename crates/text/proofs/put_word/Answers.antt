@@ -38,17 +38,16 @@ place : (c : goal.Else-b-eq32) → c.args.at + c.loop-i.i < length
     c.loop-i.out
 place c =
     let now = c.loop-i in
-    let next = ahead _ now.i now.invariant.2 (omega arith) c.if-b-eq32.false in
+    let next = ahead _ now.i now.invariant.1 (omega arith) c.if-b-eq32.false in
     omega (arith, within _ (now.i + 1) next (omega arith))
 
 pub loop-i-init : goal.loop-i-init
-loop-i-init c = (omega arith, refl, refl, record { ends = refl; holds = nothing _ _ })
+loop-i-init c = (refl, refl, record { ends = refl; holds = nothing _ _ })
 
 pub loop-i-preserved : goal.loop-i-preserved
 loop-i-preserved c =
     let now = c.loop-i in (
-      omega arith,
-      simp length-set now.invariant.1,
-      ahead _ now.i now.invariant.2 (omega arith) c.if-b-eq32.false,
-      more _ now.i now.invariant.3 (omega arith) (place c),
+      simp length-set now.invariant.0,
+      ahead _ now.i now.invariant.1 (omega arith) c.if-b-eq32.false,
+      more _ _ now.i now.invariant.2 (omega arith) (place c),
     )

@@ -2,7 +2,7 @@
 -- Assumes nothing.
 use mathlib.Core.Path.{◌≡◌}
 use mathlib.Core.List.{List, ◌++◌}
-use Prim.Native.Nat.{ℕ, ◌+◌, ◌-◌, ◌≤◌}
+use Prim.Native.Nat.{ℕ, ◌+◌}
 use lib.ListN.{length, take, drop}
 use Rattle.text.specs.Put.{Put}
 use Rattle.text.specs.Entry.{word_of}
@@ -13,7 +13,4 @@ abbrev Passed : List ℕ → ℕ → Type 0
 Passed text i = word_of text ≡ take i text ++ word_of (drop i text)
 
 abbrev pub invariant-loop-i : goal.invariant-loop-i
-invariant-loop-i l = (l.i ≤ length l.text) × (length l.out ≡ length l.initial.out) × Passed l.text l.i × Put l.initial.out l.at (take l.i l.text) (l.at + l.i) l.out
-
-abbrev pub decreases-loop-i : goal.decreases-loop-i
-decreases-loop-i l = length l.text - l.i
+invariant-loop-i l = (length l.out ≡ length l.initial.out) × Passed l.text l.i × Put l.initial.out l.at (take l.i l.text) (l.at + l.i) l.out

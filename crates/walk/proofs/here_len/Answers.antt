@@ -1,16 +1,24 @@
 -- `walk::here_len` meets its contract. Assumes nothing.
-use Rattle.walk_marks.specs.Marks.{marks_of}
 use mathlib.Core.Path.{sym, ap, ◌∙◌}
+use native.Mathlib.Omega.{arith}
 use lib.ListN.{length}
+use Rattle.section.proofs.Accepted.{is_opening, opened}
+use Rattle.walk_marks.specs.Marks.{marks_of}
 use Rattle.walk.proofs.Records.{here_is, here_not}
 use Rattle.walk.proofs.here_len.Goals as goal
 
+pub get-requires : goal.get-requires
+get-requires c = omega (arith, c.requires, (opened c.args.section.now).few)
+
+pub records_len-requires : goal.records_len-requires
+records_len-requires c = rw (is_opening c.args.section.now c.opened.ensures) c.requires
+
 pub returns-then-get : goal.returns-then-get
 returns-then-get c =
+    let s = c.args.section.now in
     let marked = sym c.get.ensures ∙ c.if-get.true in
-    let marks = marks_of c.args.reached.now in
-    let same = here_is c.args.section.now marks c.args.place c.requires.0 c.leads_at-leads.ensures marked in
-    c.records_len.ensures ∙ sym (ap length same)
+    c.records_len.ensures
+    ∙ sym (ap length (here_is s (marks_of c.args.reached.now) c.args.place (is_opening s c.opened.ensures) c.leads_at-leads.ensures marked))
 
 pub returns-else-get : goal.returns-else-get
 returns-else-get c =

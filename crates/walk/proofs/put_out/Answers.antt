@@ -21,8 +21,10 @@ pub put_three-requires : goal.put_three-requires
 unfolding ways_out
 put_three-requires c =
     let same = ap (λ (b : Bool). length (three_of b c.args.place 4 0)) c.runs_off-off.ensures in
-    (omega (arith, same, simp length-append at c.requires.0), c.requires.1)
+    (rw (c.is_some.ensures, c.stop_number.ensures) (omega (arith, same, simp length-append at c.requires.0)), c.requires.1)
 
 pub returns : goal.returns
 returns c = unfold ways_out in
-    c.put_three-at.ensures then rw c.runs_off-off.ensures at c.put_three-at-2.ensures then c.put_three.ensures
+    c.put_three-at.ensures
+    then rw c.runs_off-off.ensures at c.put_three-at-2.ensures
+    then rw (c.is_some.ensures, c.stop_number.ensures) at c.put_three.ensures

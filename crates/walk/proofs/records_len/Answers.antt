@@ -12,4 +12,6 @@ returns c =
       length_records c.args.opened c.args.place c.args.leads,
       ap three c.leaves.ensures,
       ap three c.runs_off.ensures,
+      ap three c.enters_thumb.ensures,
+      ap three c.is_some.ensures,
     )

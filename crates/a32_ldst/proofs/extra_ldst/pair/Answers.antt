@@ -1,14 +1,10 @@
 -- `ldst::extra_ldst::pair` meets its contract. Assumes nothing.
-use mathlib.Core.Path.{◌≡◌}
-use borrow.Author.Tests.{ne_eqb}
-use Prim.Native.Nat.{◌+◌, ◌%◌, ◌<◌}
-use native.Mathlib.Nat.{mod-eq_of_lt}
-use native.Mathlib.Omega.{arith}
+use Rattle.std.proofs.Common.{◌≡◌, ne_eqb, ◌+◌, ◌%◌, ◌<◌, mod-eq_of_lt, arith}
 use Rattle.word.specs.Field.{small}
 use Rattle.a32_ldst.proofs.extra_ldst.pair.Goals as goal
 
 -- an even register is not the last of the sixteen
-next : (c : goal.After-accept) → (c.bits-rd.result + 1) % 16 ≡ c.bits-rd.result + 1
+next : (c : goal.After-with-3) → (c.bits-rd.result + 1) % 16 ≡ c.bits-rd.result + 1
 next c = mod-eq_of_lt (omega (arith, of_sixteen))
   where
     of_sixteen : c.bits-rd.result < 16
@@ -18,7 +14,6 @@ pub returns : goal.returns
 returns c =
     simp (
       next c,
-      c.accept.ensures,
       c.with-3.ensures,
       c.memory.ensures,
       c.with-2.ensures,

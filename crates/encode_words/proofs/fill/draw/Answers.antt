@@ -1,9 +1,5 @@
 -- `encode_words::fill::draw` meets its contract: an arm for each name of which something is drawn. Assumes nothing.
-use mathlib.Core.Path.{◌≡◌}
-use mathlib.Core.Logic.{◌⊎◌, inl, inr}
-use Prim.Native.Nat.{ℕ, ◌≤◌}
-use native.Mathlib.Omega.{arith}
-use mathlib.Core.List.{[]}
+use Rattle.std.proofs.Common.{◌≡◌, ◌⊎◌, inl, inr, ◌≤◌, arith, []}
 use Rattle.insn.specs.declared.Insn.{Insn}
 use Rattle.encode_home.specs.Home.{puts_of, drawn_of}
 use Rattle.encode_words.proofs.Filled.{drawn_mrs, drawn_bx, drawn_clz, drawn_clrex, drawn_divide, undrawn}

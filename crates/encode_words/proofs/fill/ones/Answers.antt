@@ -1,10 +1,5 @@
 -- `encode_words::fill::ones` meets its contract: the word with the field put stays within 32 bits, and so does each part of the sum. Assumes nothing.
-use mathlib.Core.Path.{◌≡◌, sym, ap, ◌∙◌, subst}
-use Prim.Native.Nat.{ℕ, ◌+◌, ◌-◌, ◌*◌, ◌/◌, ◌%◌, ◌^◌, ◌<◌, ◌≤◌}
-use native.Mathlib.Nat.{mod-eq_of_lt}
-use native.Mathlib.Omega.{arith}
-use borrow.Author.Tests.{lt-ltb, le-leb}
-use lib.Pow.{pow_pos}
+use Rattle.std.proofs.Common.{◌≡◌, sym, ap, ◌∙◌, subst, ℕ, ◌+◌, ◌-◌, ◌*◌, ◌/◌, ◌%◌, ◌^◌, ◌<◌, ◌≤◌, mod-eq_of_lt, arith, lt-ltb, le-leb, pow_pos}
 use Rattle.word.specs.Field.{put, put_small}
 use Rattle.word.proofs.One.{shifted_one}
 use Rattle.encode_words.proofs.fill.ones.Goals as goal

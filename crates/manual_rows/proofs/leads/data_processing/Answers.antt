@@ -1,5 +1,5 @@
 -- `rows::leads::data_processing` meets its contract. Assumes nothing.
-use native.Mathlib.Omega.{arith}
+use Rattle.std.proofs.Common.{arith}
 use Rattle.manual_rows.proofs.Leading.{lead, to_hints}
 use Rattle.manual_rows.proofs.leads.data_processing.Goals as goal
 

@@ -1,5 +1,5 @@
 -- `rows::leads::registers` meets its contract. Assumes nothing.
-use native.Mathlib.Omega.{arith}
+use Rattle.std.proofs.Common.{arith}
 use Rattle.manual_rows.proofs.Leading.{lead, to_miscellaneous, to_halfword_multiply, to_register, to_shifted, to_multiply, to_synchronization}
 use Rattle.manual_rows.proofs.leads.registers.Goals as goal
 

@@ -1,5 +1,5 @@
 -- `rows::leads::table_row` meets its contract. Assumes nothing.
-use native.Mathlib.Omega.{arith}
+use Rattle.std.proofs.Common.{arith}
 use Rattle.manual_rows.proofs.Leading.{lead, to_unconditional, to_data_processing, to_load_store, to_load_store_index, to_media}
 use Rattle.manual_rows.proofs.Leading.{to_branch_and_block, to_coprocessor}
 use Rattle.manual_rows.proofs.leads.table_row.Goals as goal

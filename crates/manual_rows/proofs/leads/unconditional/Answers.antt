@@ -1,5 +1,5 @@
 -- `rows::leads::unconditional` meets its contract. Assumes nothing.
-use native.Mathlib.Omega.{arith}
+use Rattle.std.proofs.Common.{arith}
 use Rattle.manual_rows.proofs.Leading.{lead, to_hints_and_simd, is_upper}
 use Rattle.manual_rows.proofs.leads.unconditional.Goals as goal
 

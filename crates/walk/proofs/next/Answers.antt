@@ -1,9 +1,0 @@
--- `walk::next` meets its contract. Assumes nothing.
-use native.Mathlib.Omega.{arith}
-use Rattle.walk_marks.proofs.Marks.{length_marks}
-use Rattle.walk.proofs.Following.{next_here}
-use Rattle.walk.proofs.next.Goals as goal
-
-pub returns-then-at-lt4096 : goal.returns-then-at-lt4096
-returns-then-at-lt4096 c =
-    next_here c.first-at.ensures (omega (arith, c.if-at-lt4096.true, c.requires.0, length_marks c.args.waiting.now))
