@@ -1,8 +1,9 @@
 //! A32 decode.
 //!
 //! The top-level split follows the architecture reference manual's A5 decode tree on bits 27:25, and each group below is
-//! one of its tables. Condition 15 is not a condition at all but a second instruction space, so it leaves first. A word and its address go
-//! from group to group as two values and no struct of both, as in the Rust.
+//! one of its tables. Condition 15 is not a condition at all but a second instruction space, so it leaves first. A word and
+//! its address go from group to group as two values and no struct of both, as in the Rust, whose order and layout this
+//! follows.
 #![tactic(auto)]
 
 ghost use Rattle.std.specs.Prelude.{◌≡◌};

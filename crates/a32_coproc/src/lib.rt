@@ -133,6 +133,7 @@ fn transfer_name(w: u32) -> u16
 }
 
 /// One of two names, by bit 20 of `w`: to the coprocessor's side, or from it.
+/// `by_s` of a32_shared under its own definition: there the bit sets the flags, and here it loads.
 fn by_l(w: u32, store: u16, load: u16) -> u16
     ensures { result ≡ by_l w store load }
 {

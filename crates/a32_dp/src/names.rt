@@ -8,7 +8,7 @@ use a32_shared::{at, by_s, op_at};
 use insn::{Flow, Insn, name};
 use word::bits;
 
-// Two arrays and no array of pairs, as the Rust has them.
+// Two arrays and no array of pairs, as the Rust has them, whose order and layout this follows.
 const DP: [u16; 16] = [
     name::AND,
     name::EOR,

@@ -13,6 +13,7 @@ use word::bits;
 
 /// The A32 modified immediate: an eight-bit value rotated right by twice the four-bit field above it.
 #[tactic(auto, using(crate::specs::Closed::rotated_is, word::specs::Field::small))]
+/// Twelve bits of a word are a number here and below, and that they are no more a clause, which docs/EXCEPTIONS.md names.
 pub fn so_imm(imm12: u32) -> u32
     requires { imm12 < 4096 }
     ensures { result ≡ so_imm_of imm12 }

@@ -43,8 +43,8 @@ pub fn mode(w: u32) -> AddrMode
 }
 
 /// The displacement is applied after the access.
-#[tactic(auto, unfolding(crate::specs::Mem::post_of))]
 /// A function of its own, as the definition `post_of` is.
+#[tactic(auto, unfolding(crate::specs::Mem::post_of))]
 pub fn is_post(w: u32) -> bool
     ensures { result ≡ post_of w }
 {

@@ -1,4 +1,4 @@
-//! What the groups of the decoder share, from mod.rs.
+//! What the groups of the decoder share, from mod.rs. A word and its address go as two, as in `a32`.
 #![tactic(auto)]
 
 ghost use Rattle.std.specs.Prelude.{◌≡◌, ◌<◌, ◌≤◌, ◌%◌, T, map, pos};
@@ -28,6 +28,7 @@ pub fn reg(n: u32) -> Reg
 
 /// The register that the four bits of `w` from `lo` on name.
 #[tactic(auto, unfolding(word::specs::Field::field))]
+/// A field goes by its lowest bit, as the manual's diagrams have it; that four bits are there is a clause, here and where it is called.
 pub fn reg_at(w: u32, lo: u32) -> Reg
     requires { lo < 29 }
     ensures { result ≡ register_of w lo }

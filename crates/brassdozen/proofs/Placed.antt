@@ -1,13 +1,12 @@
 -- What is given and left of a place of a section. Assumes nothing.
 use mathlib.Core.Path.{◌≡◌, ap}
-use Rattle.word.specs.Refusal.{refused_with}
-use mathlib.Core.List.{List, [], ◌∷◌}
-use Prim.Native.Nat.{ℕ, ◌≤◌}
+use mathlib.Core.List.{List, []}
+use Prim.Native.Nat.{ℕ}
 use native.Mathlib.Omega.{arith}
 use borrow.Author.Tests.{eq-eqb, ne_eqb, le-leb}
-use lib.ListN.{length, set}
-use Rattle.text.specs.Fits.{answer_of, last_of}
-use Rattle.text.proofs.Writing.{nothing, three_put}
+use lib.ListN.{length}
+use Rattle.text.specs.Fits.{last_of}
+use Rattle.text.proofs.Writing.{nothing}
 use Rattle.section.specs.Section.{refusal_of, here_of}
 use Rattle.section.specs.declared.Here.{Here}
 use Rattle.section.specs.declared.Opened.{Opened}
@@ -18,13 +17,6 @@ use Rattle.brassdozen.specs.Given.{here_row, here_refusal, place_refusal, place_
 -- no numbers change nothing
 pub none_written : (out : List ℕ) → out ≡ last_of [] out
 none_written out = unfold last_of in simp (le-leb 0 (length out) (omega arith)) (nothing out 0)
-
--- three numbers that fit
-pub three_fit : (out : List ℕ) (a b c : ℕ) → 3 ≤ length out → refused_with (answer_of (a ∷ b ∷ c ∷ []) out) ≡ 0
-three_fit out a b c h = unfold answer_of in simp (le-leb 3 (length out) h)
-
-pub three_written : (out : List ℕ) (a b c : ℕ) → 3 ≤ length out → set (set (set out 0 a) 1 b) 2 c ≡ last_of (a ∷ b ∷ c ∷ []) out
-three_written out a b c h = unfold last_of in simp (le-leb 3 (length out) h) (three_put out 0 a b c h).holds
 
 module _ (s : List ℕ) (place : ℕ) (out : List ℕ) where
   -- of an accepted section what is read there

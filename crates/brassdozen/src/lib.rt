@@ -6,7 +6,7 @@ ghost use Rattle.std.specs.Prelude.{◌≡◌, ◌<◌, ◌^◌};
 ghost use Rattle.word.specs.Refusal.{refused_with};
 ghost use Rattle.word_packed.specs.Packed.{packed_answer};
 ghost use Rattle.a32.specs.Decode.{decode_of, decode_bytes_of};
-ghost use Rattle.text.specs.Fits.{len_in, answer_of, last_of};
+ghost use Rattle.text.specs.Fits.{len_in, last_of};
 ghost use Rattle.line_spelling.specs.Line.{line_of};
 ghost use Rattle.section_convert.specs.Convert.{left_of};
 ghost use Rattle.listing_text.specs.Listing.{listing_of};
@@ -37,7 +37,7 @@ use rule_verdict::judge;
 use section::{Here, Section};
 use section_convert::{Target, convert};
 use tally::add_to;
-use text::put;
+use text::{Written, put_whole};
 use walk::walk;
 use word::refusal::{Refusal, number_of};
 use word_packed::{pack, pack_answer};
@@ -122,7 +122,7 @@ fn home_word(word: u32, filler: Filler) -> u64
 
 /// A length of at most 32 bits, with a refusal's number above it.
 /// It stands beside `pack_answer`, since a length is cast; what is packed of two numbers is in each function below.
-fn pack_len(written: Result<usize, Refusal>) -> u64
+fn pack_len(written: Written) -> u64
     requires { len_in written < 2 ^ 32 }
     ensures { result ≡ packed_answer written }
 {
@@ -159,27 +159,15 @@ pub fn brassdozen_place(section: &[u8], place: u32, out: &mut [u32]) -> u8
     }
 }
 
-fn put_here(out: &mut [u32], here: Here) -> Result<(), Refusal>
+fn put_here(out: &mut [u32], here: Here) -> Written
     ensures value { refused_with result ≡ here_refusal here out.old }
     ensures out_after { out.new ≡ last_of (here_row here) out.old }
 {
     match here {
-        Here::Word(word, addr) => put_three(out, [addr, word, 0]),
-        Here::Data(word, addr) => put_three(out, [addr, word, 1]),
+        Here::Word(word, addr) => put_whole(out, &[addr, word, 0]),
+        Here::Data(word, addr) => put_whole(out, &[addr, word, 1]),
         Here::End => Err(Refusal::NoPlace),
     }
-}
-
-/// Three numbers, or nothing. `put_whole` of `text` is for bytes alone.
-fn put_three(out: &mut [u32], numbers: [u32; 3]) -> Result<(), Refusal>
-    ensures value { refused_with result ≡ refused_with (answer_of numbers out.old) }
-    ensures out_after { out.new ≡ last_of numbers out.old }
-{
-    if out.len() < numbers.len() {
-        return Err(Refusal::NoRoom);
-    }
-    put(out, 0, &numbers);
-    Ok(())
 }
 
 /// Writes `section` as one of version 1, and gives its length, with a refusal's number above it.

@@ -128,8 +128,7 @@ fn put_last(index: &mut [u32], at: usize, ahead: Ahead) -> usize
 {
     match ahead {
         Ahead::Kept => at,
-        Ahead::Call(e) => put_entry(index, at, e),
-        Ahead::Moved(e) => put_entry(index, at, e),
+        Ahead::Call(e) | Ahead::Moved(e) => put_entry(index, at, e),
     }
 }
 

@@ -131,6 +131,7 @@ fn laid_transfer(i: Insn, f: Flat) -> u32
     )
 }
 
+/// By the last name of each group, as `word_of` of encode_words: each begins where the one before it ends.
 pub fn coproc_word(i: Insn) -> u32
     ensures { result ≡ W.coproc_word i % 2 ^ 32 }
 {

@@ -77,6 +77,7 @@ fn transfer_word(i: Insn) -> u32
     kinded(i, n / 2 + 1, n % 2)
 }
 
+/// By the last name of each group, as `word_of` of encode_words: each begins where the one before it ends.
 pub fn extra_word(i: Insn) -> u32
     ensures { result ≡ W.extra_word i % 2 ^ 32 }
 {

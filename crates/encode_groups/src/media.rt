@@ -49,6 +49,7 @@ fn bfx_word(op: u64, i: Insn) -> u32
 }
 
 /// The last of `width` bits from `lsb` on, in 32 bits.
+/// By `%`, in 64 bits: the numbers of an operand may be wider than 32.
 fn last(lsb: u64, width: u64) -> u64
     ensures { result ≡ (lsb + width - 1) % 2 ^ 32 }
 {

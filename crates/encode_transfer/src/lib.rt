@@ -62,6 +62,7 @@ pub fn block_word(i: Insn) -> u32
 }
 
 /// How far a target lies from the address plus 8, in 32 bits.
+/// By `%`, in 64 bits: the numbers of an operand may be wider than 32.
 #[tactic(auto, unfolding(encode_home::specs::WordTransfer::offset_of))]
 fn offset_of(addr: u64, to: u64) -> u64
     ensures { result ≡ W.offset_of addr to }

@@ -66,6 +66,7 @@ fn draw_exclusive(i: Insn, w: u32) -> u32
 }
 
 /// `w` with ones in bits `hi..=lo`.
+/// The part above, the ones and the part below, as the definition `put` has them.
 fn ones(w: u32, hi: u32, lo: u32) -> u32
     requires { (lo ≤ hi) × (hi < 31) }
     ensures { result ≡ put w lo (hi - lo + 1) (2 ^ (hi - lo + 1) - 1) }

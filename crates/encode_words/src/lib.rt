@@ -57,7 +57,8 @@ pub fn filled_word(i: Insn, filler: Filler) -> u32
     }
 }
 
-/// The word with zeros in them, by the last name of each group, in the order of the numbers.
+/// The word with zeros in them, by the last name of each group, in the order of the numbers: a chain, since each group begins where the one
+/// before it ends, so that a range would name each end twice.
 fn word_of(i: Insn) -> u32
     ensures { result ≡ W.word_of i % 2 ^ 32 }
 {

@@ -17,6 +17,8 @@ pub const WRITE_BACK: u8 = 10;
 
 pub const ADDRESS: u8 = 12;
 
+// A reader for each field: a closure that picks it would be longer at each call. A place is a number, and that there is one a clause.
+
 /// The numbers of the operand at a place.
 pub fn at(i: Insn, n: usize) -> Flat
     requires { n < PLACES }

@@ -144,6 +144,7 @@ fn padded(row: &[u64]) -> [u64; ROW]
     whole
 }
 
+/// The row and the place go as two in the readers below, as where a row is written.
 fn has_insn(row: &[u64], i: Insn) -> bool
     requires { Room row.now 0 (row_of i) }
     ensures { Told row.now 0 (row_of i) result }
@@ -155,6 +156,7 @@ fn has_places(row: &[u64], i: Insn) -> bool
     requires { Room row.now 5 (places_row i.ops) }
     ensures { Told row.now 5 (places_row i.ops) result }
 {
+    // By number, which also says where the row has it.
     for n in 0..PLACES {
         if !has_operand(row, 5 + 11 * n, i.ops[n].operand) {
             return false;

@@ -48,6 +48,7 @@ fn same_place(a: Place, b: Place) -> bool
     if kind != y.number() {
         return false;
     }
+    // By number, which is compared once: 0 is no operand, 1 a register, 13 a memory reference.
     match kind {
         0 => true,
         1 => flatten(x).reg == flatten(y).reg,

@@ -106,6 +106,7 @@ fn index_from(row: &[u64], p: usize) -> Option<(Reg, u8)>
     }
 }
 
+/// No `From` here and below: a number beyond the last stands for the last, as the definitions have it.
 fn flow_from(n: u64, target: u32) -> Flow
     ensures { result ≡ flow_from n target }
 {
@@ -172,6 +173,7 @@ fn mark(row: &[u64], n: usize) -> bool
     number(row, n) != 0
 }
 
+/// A function for each width, here and below: a cast names its type, so one for all would be no shorter.
 fn byte(row: &[u64], n: usize) -> u8
     ensures { result ≡ low 8 row.now n }
 {

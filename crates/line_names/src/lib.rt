@@ -94,6 +94,7 @@ pub fn stem(root: u16) -> u16
     }
 }
 
+/// Tables of padded entries, here and below, and no arrays of `&str`: the definition `entry` is of one text in entries of one width.
 pub fn put_root(out: &mut [u8], at: usize, name: u16) -> usize
     requires { Room out.old at (entry roots name) }
     ensures { Put out.old at (entry roots name) result out.new }

@@ -16,6 +16,7 @@ const MOST_OF_ONE: usize = 16_397;
 
 /// Writes the listing of the section that `from` holds. An input that can't be read to its end has none.
 pub fn list<R: Read>(rt: &(impl Print + Eprint), from: &mut R) {
+    // An array and how much of it was read: a section is listed without an allocator.
     let mut section = [0u8; MOST];
     let n = read_section(from, &mut section);
     if n < most(&section) && !has_ended(from) {

@@ -22,6 +22,7 @@ const OPENS: [u8; 271] = *b"\
     aaajajjaeaaaaaa";
 
 /// How each title's page writes the PC, likewise.
+/// Two tables and no table of pairs: each is a letter for each title, so that it reads as the manual's list does.
 const FLOWS: [u8; 271] = *b"\
     aabbbbbbbbaaaabcbbbbbbbaaaaaaaaaaaaaaaaaaabbbbbbbbbaaaabbbbaaaaa\
     aaaaaaaaaaaaaaaaaaaaaaaaaaaaaaaaaaaaaaaaaaaaaaaaaaadaefklmmaaaaa\
@@ -29,7 +30,7 @@ const FLOWS: [u8; 271] = *b"\
     aaaaaaaaaaaaaaaaaaaaaaaalagaggaagagaakhimaaaaaaaaaaaaaaaaaaaaaaa\
     aaakjaaaaaaanab";
 
-/// Nothing is said.
+/// Nothing is said. It is a number, as `Tells` has it.
 const UNKNOWN: u8 = 9;
 
 /// What the operation of the row of `w` does with control: the number of a flow, 8 where another mode serves a call, or 9
@@ -42,6 +43,7 @@ pub fn flow_of(w: u32) -> u8
 }
 
 /// Whether nothing is said of a word with the title numbered `n`.
+/// A title is a number, as C is given it; that the list has it is a clause.
 fn opens(w: u32, n: u16) -> bool
     requires { n < 271 }
     ensures { result ≡ O.opens (title_at n) w }

@@ -13,7 +13,7 @@ use crate::destinations::{is_pc, is_set};
 use manual_rows::leads::table_row;
 use manual_tables::columns::column;
 
-/// The kinds of `Flows`.
+/// The kinds of `Flows`. They are numbers, and no enum, since a kind is read as a letter of a table.
 const RESULT: u8 = 1;
 
 const MOVE: u8 = 2;
@@ -38,7 +38,7 @@ const TRAPS: u8 = 11;
 
 const SERVED: u8 = 12;
 
-/// The numbers of flows, and of what is none.
+/// The numbers of flows, and of what is none. They are compared with the flow's number, as `Tells` says it.
 const NEXT: u8 = 0;
 
 const BRANCH: u8 = 1;
@@ -57,7 +57,7 @@ const TRAP: u8 = 7;
 
 const OTHER_MODE: u8 = 8;
 
-/// "MOV (register, ARM)".
+/// "MOV (register, ARM)": a title by number, which is what C is given.
 const MOV_REGISTER: u16 = 15;
 
 /// The flow of a page of the kind `kind`, with no destination of 15 of which it says UNPREDICTABLE.

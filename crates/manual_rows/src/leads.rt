@@ -12,7 +12,7 @@ use manual_tables::{
     register, shifted, signed_multiply, state, synchronization, unconditional_upper, unprivileged,
 };
 
-/// "MSR (immediate)".
+/// "MSR (immediate)": a title by number, which is what C is given.
 const MSR_IMMEDIATE: u16 = 110;
 
 /// A5.1, table A5-1: cond 31:28, op1 27:25, op 4.

@@ -10,6 +10,7 @@ ghost use Rattle.manual_tables.specs.Titles.{Numbered};
 use crate::leads::table_row;
 use crate::pages::{is_return, is_returning, other_page};
 
+/// A title by number, which is what C is given.
 const SUBS_PC_LR: u16 = 268;
 
 /// The number of the row of `w`, by the tables of chapter A5 and the pages of chapter A8.

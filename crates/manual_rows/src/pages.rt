@@ -8,6 +8,7 @@ ghost use Rattle.manual_tables.specs.Titles.{title_at, Numbered};
 
 use manual_tables::columns::column;
 
+// Titles by number, their place in the manual's list: C is given these. That the list has one is a clause.
 const SUB_IMMEDIATE: u16 = 44;
 
 const ADR: u16 = 45;

@@ -15,6 +15,7 @@ pub fn column(w: u32, hi: u32, lo: u32) -> u32
 }
 
 /// 1 if bits `hi..=lo` of `w` are `v`, else 0.
+/// A number and no bool, since it is a digit of a place in a table.
 pub fn is(w: u32, hi: u32, lo: u32, v: u32) -> u32
     requires { (lo ≤ hi) × (hi < 32) × (hi - lo < 31) }
     ensures { (result ≡ is_of (field w lo (hi - lo + 1)) v) × (result < 2) }
@@ -23,6 +24,7 @@ pub fn is(w: u32, hi: u32, lo: u32, v: u32) -> u32
 }
 
 /// The number that an entry stands for, in a table whose titles begin with number `first`.
+/// A title is a number, as C is given it; that the list has it is a clause.
 pub fn title(first: u16, entry: u8) -> u16
     requires { first < 271 }
     ensures { result ≡ entry_of first entry }

@@ -1,6 +1,6 @@
 //! The tables of chapter A5 that lead to no other. A table is an array: its columns, one after another, are the place of a
 //! word's entry. An entry is a letter, the table's titles in their order; a dot is UNDEFINED, and a question mark
-//! UNPREDICTABLE.
+//! UNPREDICTABLE. Each table has a function of its own, whose clause is the manual's table.
 #![tactic(auto)]
 
 pub mod columns;

@@ -74,7 +74,7 @@ fn held(
 }
 
 /// Which of the section's words at `base` and the patch's at `over` holds the `len` bytes from address `addr` on.
-/// Words and base stand side by side, here and below: the promises are of functions that are called so.
+/// Words and base stand side by side, here, above and below: the promises are of functions that are called so.
 pub fn find(
     section: &[u8],
     base: u32,
@@ -131,8 +131,5 @@ pub fn run_refusal(
 ) -> Option<Refusal>
     ensures { result ≡ refused_as (found_of (section.now from base) (patch.now from over) addr len) }
 {
-    match find(section, base, patch, over, addr, len) {
-        Ok(_) => None,
-        Err(refusal) => Some(refusal),
-    }
+    find(section, base, patch, over, addr, len).err()
 }

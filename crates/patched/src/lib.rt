@@ -45,6 +45,7 @@ fn put_patched<'a>(out: &mut [u8], section: &Section<'a>, patch: &Section<'a>) -
 }
 
 /// Each word at `base`, as it stands in the image. Words and patch lie at multiples of 4, so one of them holds all of a word.
+/// Words and base go as two, as `run` takes them.
 fn put_words<'a>(
     out: &mut [u8],
     at: usize,

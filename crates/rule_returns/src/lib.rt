@@ -65,6 +65,7 @@ fn ends(program: Coded, p: usize, v: bool, u: bool) -> bool
 }
 
 /// Whether it goes on to the next place, which leads to a return in `u`.
+/// A program and the table go as two, here and below: the table is lent to be changed, and some functions need one of them alone.
 fn by_next(program: Coded, known: &[u32], p: usize, v: bool, u: bool) -> bool
     requires { p < 4096 }
     ensures { (result ≡ true) ↔ ((has (flags_at program.entry.flags.now p) NEXT ≡ true) × Table (marks_of known.now) (p + 1) v u) }
@@ -134,6 +135,7 @@ fn round(program: Coded, known: &mut [u32]) -> bool
     ensures { (entries : List ℕ) → Better (coded program.entry entries) (λ j. j < 4 * length program.entry.flags.now) (marks_of known.old) (marks_of known.new) result }
 {
     let mut new = false;
+    // By number: a mark is its number.
     for i in (0..4 * program.flags.len()).rev() {
         new |= learn(program, known, i);
     }

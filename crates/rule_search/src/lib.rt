@@ -16,6 +16,7 @@ use rule_returns::table_at;
 pub const FAR: u16 = 65535;
 
 /// A step from the node `x`, whose place `p` leaves state `v`, to what is then `d` steps away.
+/// That `x` and `d` fit the lists' numbers is a clause, since it follows from how long these are, where a step is made.
 #[derive(Clone, Copy)]
 struct Step {
     x: usize,
@@ -33,6 +34,7 @@ fn node(p: usize, s: bool) -> usize
 }
 
 /// What is noted of each node, in lists that are lent: how far it is, and the node before it on the way.
+/// The clause `same` stands in each contract: a list in a struct that is lent might be another one after it.
 #[derive(Drop)]
 struct Reached<'a> {
     dist: &'a mut [u16],
@@ -112,6 +114,7 @@ impl Reached<'_> {
     }
 
     /// Goes on to the next place, where the step's does.
+    /// The table is lent beside the program, here and below, as in `rule_returns`.
     fn go_on(&mut self, program: Coded, step: Step) -> bool
         requires { Fits step self.old }
         ensures same { SameLists self.old self.new }

@@ -104,13 +104,7 @@ fn first_open(program: Coded, dist: &[u16]) -> Option<usize>
     requires { (length program.flags.now ≤ 4096) × (length dist.now ≡ 2 * length program.flags.now + 2) }
     ensures { FirstOpen program.entry.flags.now dist.now result }
 {
-    // By number: a place is one, and none before the first is open, as `FirstOpen` says it.
-    for p in 0..program.flags.len() {
-        if open_at(program, dist, p) {
-            return Some(p);
-        }
-    }
-    None
+    (0..program.flags.len()).find(|&p| open_at(program, dist, p))
 }
 
 /// Writes the way to the node `x`, which is `d` steps away.
@@ -127,6 +121,7 @@ fn trace(from: &[u16], way: &mut [u32], x: usize, d: usize)
 }
 
 /// The verdict, with as much room as there are nodes.
+/// C lends these lists one by one, so they come as they are, here and in `judge`.
 fn decide(
     program: Coded,
     known: &mut [u32],

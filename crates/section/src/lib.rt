@@ -224,10 +224,12 @@ fn do_rules_hold(bytes: &[u8], ranges: usize, count: usize) -> bool
 }
 
 /// Whether a range has the place. They ascend: where one starts beyond the place, so do all after it.
+/// Bytes and what they are opened to go as two, here and in `here_at`: a `Section` is made of these.
 fn is_data(bytes: &[u8], opened: Opened, place: usize) -> bool
     requires { opened ≡ opening_of bytes.now }
     ensures { result ≡ is_data (ranges_of bytes.now opened.ranges) place }
 {
+    // By number, as in `do_rules_hold`.
     for i in 0..opened.ranges as usize {
         let range = range_at(bytes, i);
         if place < range.first as usize {
@@ -252,10 +254,7 @@ pub enum Here {
 pub fn is_end(here: Here) -> bool
     ensures { result ≡ is_end here }
 {
-    match here {
-        Here::Word(_, _) | Here::Data(_, _) => false,
-        Here::End => true,
-    }
+    matches!(here, Here::End)
 }
 
 /// What stands at a place before the end.

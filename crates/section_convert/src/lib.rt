@@ -45,6 +45,7 @@ pub fn convert(section: &[u8], target: Target, out: &mut [u8]) -> Written
 }
 
 /// The header of `section` in another version, then its count of ranges and its words, or nothing.
+/// The version's low byte is given; the other is 0.
 fn put_as(out: &mut [u8], section: &[u8], version: u8, count: &[u8], words: &[u8]) -> Written
     requires { (9 ≤ length section.now) × (length count.now ≤ 2) }
     ensures value { result ≡ answer_of (header_as version section.now ++ count.now ++ words.now) out.old }

@@ -13,6 +13,8 @@ use insn::Insn;
 use section::{Here, Section};
 use word::refusal::Refusal;
 
+// The counts are numbers by their places and no fields: C lends them so.
+
 /// The place of the count of sections.
 pub const SECTIONS: usize = 0;
 

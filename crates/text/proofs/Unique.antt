@@ -16,9 +16,9 @@ use Rattle.text.proofs.put_hex.Reads as put_hex
 pub one_put : {A : Type 0} {out s last last' : List A} {at next next' : ℕ} → Put out at s next last → Put out at s next' last' → (next ≡ next') × (last ≡ last')
 one_put p q = (p.ends ∙ sym q.ends, p.holds ∙ sym q.holds)
 
-pub put_whole_only : (κs : _) (a : _) (r r' : _) (s s' : _) → put_whole.Post κs a r s → put_whole.Post κs a r' s'
-    → (r ≡ r') × (s.0.now ≡ s'.0.now)
-put_whole_only κs a r r' s s' p q = (p.0 ∙ sym q.0, p.1 ∙ sym q.1)
+pub put_whole_only : (T : _) (laws : _) (copy : _) (C : _) (d : _) (κs : _) (a : _) (r r' : _) (s s' : _) → put_whole.Post T laws copy C d κs a r s
+    → put_whole.Post T laws copy C d κs a r' s' → (r ≡ r') × (s.0.now ≡ s'.0.now)
+put_whole_only T laws copy C d κs a r r' s s' p q = (p.0 ∙ sym q.0, p.1 ∙ sym q.1)
 
 pub put_one_only : (T : _) (laws : _) (copy : _) (C : _) (d : _) (κs : _) (a : _) (r r' : _) (s s' : _) → put_one.Post T laws copy C d κs a r s
     → put_one.Post T laws copy C d κs a r' s' → (r ≡ r') × (s.0.now ≡ s'.0.now)

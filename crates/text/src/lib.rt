@@ -15,7 +15,7 @@ use word::refusal::Refusal;
 pub type Written = Result<usize, Refusal>;
 
 /// Writes all of `text` to the start of `out`, or nothing.
-pub fn put_whole(out: &mut [u8], text: &[u8]) -> Written
+pub fn put_whole<T: Copy>(out: &mut [T], text: &[T]) -> Written
     ensures value { result ≡ answer_of text.now out.old }
     ensures out_after { out.new ≡ last_of text.now out.old }
 {
@@ -78,6 +78,7 @@ pub fn put_entry(out: &mut [u8], at: usize, table: &[u8], width: usize, n: usize
 }
 
 /// A number in base ten.
+/// Digits are written here and below: the clauses say each byte of the text, and it goes where the text has come to.
 pub fn put_decimal(out: &mut [u8], at: usize, n: u64) -> usize
     requires { Room out.old at (decimal_of n) }
     ensures { Put out.old at (decimal_of n) result out.new }

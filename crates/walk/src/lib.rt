@@ -27,6 +27,7 @@ fn leads_at(section: &Section<'_>, place: usize) -> Leads
 }
 
 /// A mark for each place that a section can have, on those that are reached, and on what of these is still to be taken up, and so waits.
+/// No set of the library's: there is no heap here, and a section has 4,096 places at most.
 #[derive(Drop)]
 struct Search {
     reached: [u32; 128],
@@ -60,6 +61,7 @@ impl Search {
     }
 
     /// The same for where `leads` leads from `place`.
+    /// What is opened, the place and where it leads go as three, here and below, as `runs_off` takes them.
     fn follow_both(&mut self, opened: Opened, place: usize, leads: Leads)
         requires { (place < opened.count) × (opened.count ≤ 4096) }
         ensures { Follows self.old.reached self.old.waiting (steps_from opened place leads) self.new.reached self.new.waiting }

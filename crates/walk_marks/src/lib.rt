@@ -1,4 +1,5 @@
 //! Marks on places, 32 to a number, lowest bit first. A contract speaks of a list of booleans; how they are kept is known here alone.
+//! No set of the library's: there is no heap here, and the numbers are lent.
 #![tactic(auto)]
 
 ghost use Rattle.std.specs.Prelude.{◌≡◌, true, false, ◌*◌, ◌≤◌, ◌<◌, length, get_or, set};
@@ -30,6 +31,7 @@ fn without_bit(w: u32, i: u32) -> u32
 }
 
 /// Whether `place` is marked.
+/// Marks are lent as slices of any length, so that the place is one of theirs is a clause, here and below.
 pub fn get(marks: &[u32], place: usize) -> bool
     requires { place < 32 * length marks.now }
     ensures { result ≡ get_or (marks_of marks.now) place false }

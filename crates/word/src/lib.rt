@@ -10,6 +10,7 @@ ghost use Rattle.word.specs.Signed.{sext_of, target_of, minus, signed};
 pub mod refusal;
 
 /// Bits `hi..=lo` of `w`.
+/// The bounds go as numbers, here and below, as the manual's diagrams have them, so that they are bits of the word is a clause.
 #[tactic(auto, unfolding(crate::specs::Field::field), using(crate::proofs::One::shifted_one))]
 pub fn bits(w: u32, hi: u32, lo: u32) -> u32
     requires { (lo ≤ hi) × (hi < 32) × (hi - lo < 31) }
@@ -42,6 +43,7 @@ pub fn join(widths: &[u64], values: &[u64]) -> u32
     ensures { result ≡ join widths.now values.now % 2 ^ 32 }
 {
     let mut w: u64 = 0;
+    // By number from the end: `zip` from there asks for both lengths at each step, and is slower.
     for n in (0..widths.len()).rev() {
         let above = (w << widths[n]) % 0x1_0000_0000;
         w = (above + values[n] % 0x1_0000_0000) % 0x1_0000_0000;
@@ -75,26 +77,21 @@ pub fn target(addr: u64, off: u32) -> u32
 pub fn positive(v: u32) -> i64
     ensures { result ≡ pos v }
 {
-    v as i64
+    i64::from(v)
 }
 
 /// Minus `v`.
 pub fn negative(v: u32) -> i64
     ensures { result ≡ minus v }
 {
-    -(v as i64)
+    -i64::from(v)
 }
 
 /// `v` read as a signed 32-bit number.
-/// By halves: a cast keeps the number, so one from 2^31 on is not cast.
 pub fn as_signed(v: u32) -> i64
     ensures { result ≡ signed v }
 {
-    if v < 0x8000_0000 {
-        positive(v)
-    } else {
-        negative(0xffff_ffff - v + 1)
-    }
+    i64::from(v.cast_signed())
 }
 
 /// The word that four bytes from place `at` on hold, low byte first.
