@@ -119,7 +119,7 @@ fn callee_at(section: &[u8], opened: Opened, place: usize, word: u32) -> Option<
     requires { (opened ≡ opening_of section.now) × (place < opened.count) }
     ensures { result ≡ callee_here (here_of (replaced_of section.now place word) place) }
 {
-    callee_here(with_word(read(section, opened, place), word))
+    callee_here(with_word(read(section, opened, place).here, word))
 }
 
 /// Replaces the word at a place of the section, once the updated index is known to hold few enough calls. The section is lent to be changed, so what

@@ -91,7 +91,7 @@ fn count(section: &[u8], opened: Opened) -> Changed
     let mut unindexed = 0;
     // By place, since a change has its place's number.
     for place in 0..opened.count {
-        let change = change_at(place, read(section, opened, place as usize));
+        let change = change_at(place, read(section, opened, place as usize).here);
         changes += one(change);
         unindexed += one_unindexed(change);
     }
@@ -119,7 +119,7 @@ fn rewrite(section: &mut [u8], opened: Opened, list: &mut [u32])
 {
     let mut at = 0;
     for place in 0..opened.count {
-        let change = change_at(place, read(section, opened, place as usize));
+        let change = change_at(place, read(section, opened, place as usize).here);
         replace(section, opened, place as usize, change.new);
         at = put_change(list, at, change);
     }

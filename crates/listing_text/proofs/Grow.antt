@@ -11,7 +11,8 @@ use Rattle.word.specs.Refusal.{refused_with}
 use Rattle.a32.specs.Decode.{decode_of}
 use Rattle.line_spelling.proofs.Fits.{line_fits}
 use Rattle.line_spelling.proofs.Digits.{hex_length}
-use Rattle.section.specs.Section.{firsts, opening_of, here_at, places_of, Step, step_of}
+use Rattle.section.specs.Section.{firsts, opening_of, here_at, places_of, step_of}
+use Rattle.section.specs.declared.Step.{Step}
 use Rattle.section.specs.declared.Here.{Here}
 use Rattle.section.specs.declared.Here.TheVariants.{Word, Data, End}
 use Rattle.section.proofs.Accepted.{opened}

@@ -19,6 +19,9 @@ use word::refusal::Refusal;
 /// The lines around those of the words take no more bytes.
 const AROUND: usize = 64;
 
+/// A data word's line: two numbers of eight digits, a space after each, `data` and a newline.
+const DATA_LINE: usize = 23;
+
 /// A buffer of so many bytes takes the listing of every section.
 pub const ENOUGH: usize = AROUND + 4096 * MOST;
 
@@ -121,21 +124,29 @@ fn put_here(out: &mut [u8], lines: Lines, here: Here) -> Lines
     ensures named_value { (result.named ≡ lines.named + named_here here) × (result.pool ≡ lines.pool + data_here here) }
 {
     match here {
-        Here::Word(word, addr) => {
-            let addr = addr as u64;
-            let d = decode(word, addr);
-            Lines {
-                at: put_answered(out, lines.at, addr, word, d),
-                named: lines.named + u32::from(d.is_ok()),
-                ..lines
-            }
-        }
+        Here::Word(word, addr) => put_next(out, lines, word, addr),
         Here::Data(word, addr) => Lines {
             at: put_data_line(out, lines.at, word, addr),
             pool: lines.pool + 1,
             ..lines
         },
         Here::End => lines,
+    }
+}
+
+/// The lines with that of `word` at `addr`. It stands apart from `put_here`, so that an answer is made room for only where a word is decoded.
+fn put_next(out: &mut [u8], lines: Lines, word: u32, addr: u32) -> Lines
+    requires named_bound { lines.named < 4096 }
+    requires room { Room out.old lines.at (line_here (Here.Word word addr)) }
+    ensures put { Put out.old lines.at (line_here (Here.Word word addr)) result.at out.new }
+    ensures named_value { (result.named ≡ lines.named + named_here (Here.Word word addr)) × (result.pool ≡ lines.pool + data_here (Here.Word word addr)) }
+{
+    let addr = addr as u64;
+    let d = decode(word, addr);
+    Lines {
+        at: put_answered(out, lines.at, addr, word, d),
+        named: lines.named + u32::from(d.is_ok()),
+        ..lines
     }
 }
 
@@ -218,16 +229,26 @@ fn lines_len(section: &Section<'_>) -> Lines
     lines
 }
 
-/// The lines with that of what stands at the next place, of which the length alone is kept.
+/// The lines with that of what stands at the next place, of which the length alone is kept. Lines of data are all of one length, and none is written.
 fn add_here(lines: Lines, here: Here) -> Lines
     requires { (lines.named < 4096) × (lines.pool < 4096) × (lines.at < 96 * 4096) }
     ensures at_value { result.at ≡ lines.at + length (line_here here) }
     ensures named_value { (result.named ≡ lines.named + named_here here) × (result.pool ≡ lines.pool + data_here here) }
 {
-    let mut own = [0u8; MOST];
-    let one = put_here(&mut own, Lines { at: 0, ..lines }, here);
-    Lines {
-        at: lines.at + one.at,
-        ..one
+    match here {
+        Here::Word(word, addr) => {
+            let mut own = [0u8; MOST];
+            let one = put_next(&mut own, Lines { at: 0, ..lines }, word, addr);
+            Lines {
+                at: lines.at + one.at,
+                ..one
+            }
+        }
+        Here::Data(_, _) => Lines {
+            at: lines.at + DATA_LINE,
+            pool: lines.pool + 1,
+            ..lines
+        },
+        Here::End => lines,
     }
 }

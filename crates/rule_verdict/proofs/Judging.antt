@@ -83,7 +83,7 @@ module _ (program : Coded) {S : Summary} (settles : Settled (coded program progr
       none-near : steps_to r ≡ far
       none-near = ap steps_to is
 
-      unbroken : Broken P → ⊥
+      pub unbroken : Broken P → ⊥
       unbroken (p, s, st, run, (c, e)) =
           let r = run_reached P settles m p s st run in
           let r' : dst D (node p true) < far = rw e at r in

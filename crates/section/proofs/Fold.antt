@@ -6,7 +6,8 @@ use native.Mathlib.Numerals.{add-one}
 use borrow.Author.Tests.{lt-ltb}
 use lib.ListN.{length, take}
 use lib.Seq.{take-suc, take_all}
-use Rattle.section.specs.Section.{places_of, here_of, Step, step_of}
+use Rattle.section.specs.Section.{places_of, here_of, step_of}
+use Rattle.section.specs.declared.Step.{Step}
 use Rattle.section.specs.declared.Here.{Here}
 use Rattle.section.specs.declared.Here.TheVariants.{End}
 use Rattle.section.proofs.Places.{Stands, is_before, is_end_lem}

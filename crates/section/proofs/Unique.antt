@@ -11,7 +11,8 @@ use Rattle.section.proofs.reader.Section.open.Reads as section_open
 use Rattle.section.proofs.reader.Section.opened.Reads as opened
 use Rattle.section.proofs.reader.Section.at.Reads as at
 use Rattle.section.proofs.reader.Section.bytes.Reads as bytes
-use Rattle.section.specs.Section.{opened_in, Step}
+use Rattle.section.specs.Section.{opened_in}
+use Rattle.section.specs.declared.Step.{Step}
 use Rattle.section.specs.declared.Here.{Here}
 use Rattle.section.proofs.reader.ReaderIterator.next.Reads as next
 use Rattle.section.proofs.reader.Section.places.Reads as places

@@ -4,7 +4,8 @@ use mathlib.Core.List.{List, ◌∷◌}
 use Prim.Native.Nat.{ℕ, ◌<◌}
 use native.Mathlib.Omega.{arith}
 use lib.ListN.{length, length-drop}
-use Rattle.section.specs.Section.{opening_of, places_of, left_of, Step, step_of}
+use Rattle.section.specs.Section.{opening_of, places_of, left_of, step_of}
+use Rattle.section.specs.declared.Step.{Step}
 use Rattle.section.specs.declared.Here.{Here}
 use Rattle.section.proofs.Places.{Stands, something, before_end}
 

@@ -9,6 +9,7 @@ use Rattle.section.specs.declared.Range.{Range}
 use Rattle.section.specs.declared.Opened.{Opened}
 use Rattle.section.specs.declared.Here.{Here}
 use Rattle.section.specs.declared.Here.TheVariants.{Word, Data, End}
+use Rattle.section.specs.declared.Step.{Step}
 
 -- "A section: `RSX`, version (2 bytes), base (4 bytes), words, low byte first"
 abbrev pub marked_of : List ℕ → Bool
@@ -119,10 +120,6 @@ here_in None = End
 here_in (Some here) = here
 
 -- what a reader finds at its place, and the place that it goes on to
-pub record Step : Type 0 where
-  pub here : Here
-  pub after : ℕ
-
 abbrev pub step_of : List ℕ → ℕ → Step
 step_of s place = record { here = here_of s place; after = after_of s place }
 

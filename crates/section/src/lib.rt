@@ -4,7 +4,7 @@
 ghost use Rattle.std.specs.Prelude.{◌≡◌, true, ◌+◌, ◌-◌, ◌*◌, ◌<◌, ◌≤◌, ltb, length};
 ghost use Rattle.section.specs.Ranges.{end_of, follows, rules_hold, is_data};
 ghost use Rattle.section.specs.Section.{marked_of, half_at, version_of, is_known, base_of, range_count, start_of, range_at, ranges_of, count_of};
-ghost use Rattle.section.specs.Section.{refusal_of, opened_of, opening_of, here_at, here_of, is_end};
+ghost use Rattle.section.specs.Section.{refusal_of, opened_of, opening_of, here_at, step_of, is_end};
 ghost use Rattle.section.specs.Replaced.{replaced_of, with_word};
 ghost use Rattle.word.specs.Refusal.{refused_with};
 
@@ -271,16 +271,29 @@ fn here_at(bytes: &[u8], opened: Opened, place: usize) -> Here
     }
 }
 
-/// What stands at a place, or the end. It takes the bytes and what they were opened to, as `replace` does, for what changes a section while it goes
-/// through it: a `Section` holds its bytes lent.
-pub fn read(bytes: &[u8], opened: Opened, place: usize) -> Here
+/// What stands at a place, and the place after it. The end comes after itself.
+#[derive(Clone, Copy, PartialEq, Eq)]
+pub struct Step {
+    pub here: Here,
+    pub after: usize,
+}
+
+/// What stands at a place, or the end, and the place after it. It takes the bytes and what they were opened to, as `replace` does, for what changes a
+/// section while it goes through it: a `Section` holds its bytes lent.
+pub fn read(bytes: &[u8], opened: Opened, place: usize) -> Step
     requires { opened ≡ opening_of bytes.now }
-    ensures { result ≡ here_of bytes.now place }
+    ensures { result ≡ step_of bytes.now place }
 {
     if place < opened.count as usize {
-        here_at(bytes, opened, place)
+        Step {
+            here: here_at(bytes, opened, place),
+            after: place + 1,
+        }
     } else {
-        Here::End
+        Step {
+            here: Here::End,
+            after: place,
+        }
     }
 }
 

@@ -53,7 +53,7 @@ impl<'a> Section<'a> {
     pub fn at(&self, place: usize) -> Here
         ensures { result ≡ here_of self.now place }
     {
-        read(self.bytes, self.opened, place)
+        read(self.bytes, self.opened, place).here
     }
 
     /// A reader at the first place.
@@ -88,7 +88,7 @@ impl<'a> Iterator for Reader<'a> {
         let place = self.place;
         if place < self.opened.count as usize {
             self.place += 1;
-            Some(read(self.bytes, self.opened, place))
+            Some(read(self.bytes, self.opened, place).here)
         } else {
             None
         }

@@ -1,9 +1,8 @@
 -- The laws of a text written into a buffer. Assumes nothing.
 use mathlib.Core.Path.{◌≡◌, refl, sym, ◌∙◌}
-use mathlib.Core.List.{List, [], ◌∷◌, ◌++◌, append-nil, append_assoc}
-use Prim.Native.Nat.{ℕ, zero, suc, ◌+◌, ◌-◌, ◌<◌, ◌≤◌}
-use borrow.Rule.Slice.PartMut.{put_mid}
-use native.Mathlib.Nat.{zero-add, add_assoc, suc-add, add-sub_cancel_left}
+use mathlib.Core.List.{List, [], ◌∷◌, ◌++◌, append-nil}
+use Prim.Native.Nat.{ℕ, zero, suc, ◌+◌, ◌<◌, ◌≤◌}
+use native.Mathlib.Nat.{zero-add, add_assoc, suc-add}
 use native.Mathlib.Numerals.{add-one}
 use native.Mathlib.Omega.{arith}
 use lib.ListN.{length, get_or, take, drop, set, length-set, length-append, length-take, length-drop, drop_of_length-le}
@@ -52,11 +51,6 @@ byte out at b h = record { ends = refl; holds = one out at b h }
 
 pub none : {A : Type 0} (out : List A) (at : ℕ) → Put out at [] at out
 none out at = record { ends = omega arith; holds = nothing out at }
-
--- a part of the buffer that is now the text
-pub part : {A : Type 0} {s now : List A} (out : List A) (at : ℕ) → now ≡ s → put_mid at (at + length s - at) out now ≡ written out at s
-unfolding written
-part {s = s} out at e = rw (e, add-sub_cancel_left at (length s), drop-drop (length s) at out) (sym (append_assoc (take at out) s (drop (at + length s) out)))
 
 -- a writer and then another write both texts
 infixl 4 ◌then◌

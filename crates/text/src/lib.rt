@@ -35,14 +35,16 @@ pub fn put_one<T: Copy>(out: &mut [T], at: usize, x: T) -> usize
     at + 1
 }
 
-/// All of `text`.
+/// All of `text`. What is passed is stored one by one: of this the compiler makes a few stores, or one call of `memcpy`; the library's copy of a part
+/// is slower where a text is short, and becomes a call of `memmove`, which the libraries for C do not ask for.
 pub fn put<T: Copy>(out: &mut [T], at: usize, text: &[T]) -> usize
     requires { Room out.old at text.now }
     ensures { Put out.old at text.now result out.new }
 {
-    let end = at + text.len();
-    out[at..end].copy_from_slice(text);
-    end
+    for (i, x) in text.iter().enumerate() {
+        out[at + i] = *x;
+    }
+    at + text.len()
 }
 
 /// What stands in `text` before its first space. A byte is stored as it is passed: to find the end first, and copy then, is slower.

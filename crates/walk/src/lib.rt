@@ -198,6 +198,26 @@ fn records_len(opened: Opened, place: usize, leads: Leads) -> usize
         + three(leads.stop.is_some())
 }
 
+/// The records of a place that is marked. It stands apart from `put_here`, which is called for each place of the section: what leads from a place is
+/// made room for only where the place is marked.
+fn put_marked(out: &mut [u32], at: usize, section: &Section<'_>, place: usize) -> usize
+    requires place_in_bounds { place < (opening_of section.now).count }
+    requires room { Room out.old at (records_from (opening_of section.now) place (leads_at section.now place)) }
+    ensures { Put out.old at (records_from (opening_of section.now) place (leads_at section.now place)) result out.new }
+{
+    let leads = leads_at(section, place);
+    put_records(out, at, section.opened(), place, leads)
+}
+
+/// How many numbers they have.
+fn marked_len(section: &Section<'_>, place: usize) -> usize
+    requires { place < (opening_of section.now).count }
+    ensures { result ≡ length (records_from (opening_of section.now) place (leads_at section.now place)) }
+{
+    let leads = leads_at(section, place);
+    records_len(section.opened(), place, leads)
+}
+
 /// The records of a place, if it is marked.
 fn put_here(
     out: &mut [u32],
@@ -211,8 +231,7 @@ fn put_here(
     ensures { Put out.old at (records_here section.now (marks_of reached.now) place) result out.new }
 {
     if get(reached, place) {
-        let leads = leads_at(section, place);
-        put_records(out, at, section.opened(), place, leads)
+        put_marked(out, at, section, place)
     } else {
         at
     }
@@ -224,8 +243,7 @@ fn here_len(reached: &[u32; 128], section: &Section<'_>, place: usize) -> usize
     ensures { result ≡ length (records_here section.now (marks_of reached.now) place) }
 {
     if get(reached, place) {
-        let leads = leads_at(section, place);
-        records_len(section.opened(), place, leads)
+        marked_len(section, place)
     } else {
         0
     }

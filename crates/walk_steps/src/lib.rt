@@ -154,7 +154,7 @@ pub fn leads_at(section: &[u8], opened: Opened, place: usize) -> Leads
     requires { opened ≡ opening_of section.now }
     ensures { result ≡ leads_at section.now place }
 {
-    here_leads(read(section, opened, place))
+    here_leads(read(section, opened, place).here)
 }
 
 /// The place of an address, if the section has one.

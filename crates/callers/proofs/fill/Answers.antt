@@ -7,7 +7,8 @@ use native.Mathlib.Omega.{arith}
 use lib.ListN.{length}
 use Rattle.text.specs.Text.{written}
 use Rattle.text.proofs.Writing.{nothing as nothing_new}
-use Rattle.section.specs.Section.{Step, step_of}
+use Rattle.section.specs.Section.{step_of}
+use Rattle.section.specs.declared.Step.{Step}
 use Rattle.section.proofs.Places.{Stands}
 use Rattle.section.proofs.Fold.{upto, before, goes_on, ends}
 use Rattle.section.proofs.Yielded.{stands}

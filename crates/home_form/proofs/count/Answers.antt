@@ -8,6 +8,7 @@ use native.Mathlib.Omega.{arith}
 use lib.ListN.{length, length-append}
 use Rattle.section.specs.Section.{opening_of}
 use Rattle.section.specs.declared.Opened.{Opened}
+use Rattle.section.specs.declared.Step.{Step}
 use Rattle.section.proofs.Accepted as accepted
 use Rattle.home_form.specs.Home.{gathered}
 use Rattle.home_form.specs.Changes.{listed, changes_at, changes_of, unindexed_among}
@@ -53,7 +54,7 @@ loop-place-preserved c =
     let now = c.loop-place in
     let s = c.args.section.now in
     let before = gathered (changes_at s) now.place in
-    let same = read_there s now.place c.read.ensures c.change_at-change.ensures in (
+    let same = read_there s now.place (ap (λ (found : Step). found.here) c.read.ensures) c.change_at-change.ensures in (
       rw (add-one now.place)
           (omega (arith, now.invariant.0, c.one-changes.ensures, ap (λ (l : List Change). length l) same, length-append before (changes_at s now.place))),
       rw (add-one now.place)

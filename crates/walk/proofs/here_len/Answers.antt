@@ -1,8 +1,8 @@
 -- `walk::here_len` meets its contract. Assumes nothing.
-use mathlib.Core.Path.{sym, ap, ◌∙◌}
+use mathlib.Core.Path.{refl, sym, ap, ◌∙◌}
 use native.Mathlib.Omega.{arith}
 use lib.ListN.{length}
-use Rattle.section.proofs.Accepted.{is_opening, opened}
+use Rattle.section.proofs.Accepted.{opened}
 use Rattle.walk_marks.specs.Marks.{marks_of}
 use Rattle.walk.proofs.Records.{here_is, here_not}
 use Rattle.walk.proofs.here_len.Goals as goal
@@ -10,15 +10,10 @@ use Rattle.walk.proofs.here_len.Goals as goal
 pub get-requires : goal.get-requires
 get-requires c = omega (arith, c.requires, (opened c.args.section.now).few)
 
-pub records_len-requires : goal.records_len-requires
-records_len-requires c = rw (is_opening c.args.section.now c.opened.ensures) c.requires
-
 pub returns-then-get : goal.returns-then-get
 returns-then-get c =
-    let s = c.args.section.now in
     let marked = sym c.get.ensures ∙ c.if-get.true in
-    c.records_len.ensures
-    ∙ sym (ap length (here_is s (marks_of c.args.reached.now) c.args.place (is_opening s c.opened.ensures) c.leads_at-leads.ensures marked))
+    c.marked_len.ensures ∙ sym (ap length (here_is c.args.section.now (marks_of c.args.reached.now) c.args.place refl refl marked))
 
 pub returns-else-get : goal.returns-else-get
 returns-else-get c =
