@@ -58,11 +58,12 @@ fn put_words<'a>(
     requires room { Room out.old at (image_of (words.now from base) (patch.now from over)) }
     ensures { Put out.old at (image_of (words.now from base) (patch.now from over)) result out.new }
 {
-    // By place: a run is asked for by its address.
-    for place in 0..words.len() / 4 {
-        let i = 4 * place;
+    // No `for` over the words by their number, which took up to half as long again: place, byte and address would be counted side by side.
+    let mut i = 0;
+    while i < words.len() {
         let word = run(words, base, patch, over, base as u64 + i as u64, 4);
         put(out, at + i, word);
+        i += 4;
     }
-    at + words.len()
+    at + i
 }
