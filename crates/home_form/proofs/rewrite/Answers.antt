@@ -47,18 +47,21 @@ replace-requires c = (
 pub put_change-at-requires : goal.put_change-at-requires
 put_change-at-requires c =
     let now = c.loop-place in
-    fits c.args.section.now now.place (inside c.args.section.now c.requires.opened_value c.loop-place-test.true) now.invariant.0 (ap (λ (found : Step). found.here) c.read.ensures)
-    c.change_at-change.ensures now.invariant.3 now.invariant.2 c.requires.section_in_bounds
+    let s = c.args.section.now in
+    let here = inside s c.requires.opened_value c.loop-place-test.true in
+    let read = ap (λ (found : Step). found.here) c.read.ensures in
+    fits s now.place here now.invariant.0 read c.change_at-change.ensures now.invariant.3 now.invariant.2 c.requires.section_in_bounds
 
 pub loop-place-preserved : goal.loop-place-preserved
 loop-place-preserved c =
     let now = c.loop-place in
     let s = c.args.section.now in
-    let here = inside s c.requires.opened_value c.loop-place-test.true in (
-      rewrites s now.place here now.invariant.0 (ap (λ (found : Step). found.here) c.read.ensures) c.change_at-change.ensures c.replace.ensures,
+    let here = inside s c.requires.opened_value c.loop-place-test.true in
+    let read = ap (λ (found : Step). found.here) c.read.ensures in (
+      rewrites s now.place here now.invariant.0 read c.change_at-change.ensures c.replace.ensures,
       c.replace.auto.bytes ∙ now.invariant.1,
       c.put_change-at.auto.list ∙ now.invariant.2,
-      lists s now.place here now.invariant.0 (ap (λ (found : Step). found.here) c.read.ensures) c.change_at-change.ensures now.invariant.3 c.put_change-at.ensures,
+      lists s now.place here now.invariant.0 read c.change_at-change.ensures now.invariant.3 c.put_change-at.ensures,
     )
 
 pub returns-clause-section_after : goal.returns-clause-section_after
