@@ -17,11 +17,11 @@ pub fn block(w: u32, addr: u64) -> Decoded
     // set in the exception-return forms
     let user = bit(w, 22);
     let list = bits(w, 15, 0);
-    if user == 0 && list != 0 {
-        listed(w, addr)
-    } else {
-        Err(Refusal::NoRow)
+    // What is refused leaves first: given by the other arm of a test, the answer was copied once more.
+    if user != 0 || list == 0 {
+        return Err(Refusal::NoRow);
     }
+    listed(w, addr)
 }
 
 fn listed(w: u32, addr: u64) -> Decoded

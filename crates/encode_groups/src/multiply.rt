@@ -1,6 +1,5 @@
 //! The word of a multiply, a halfword multiply or an exclusive, from its answer.
-ghost use Rattle.std.specs.Prelude.{◌≡◌, ℕ, ◌%◌, ◌^◌, ◌<◌, get_or};
-ghost use Rattle.insn.specs.Answer.{PLACES};
+ghost use Rattle.std.specs.Prelude.{◌≡◌, ℕ, ◌+◌, ◌%◌, ◌^◌, ◌<◌};
 ghost use Rattle.insn_parts.specs.Parts as P;
 ghost use Rattle.encode_home.specs.WordMultiply as W;
 
@@ -21,25 +20,26 @@ fn laid(i: Insn, low: u64, op: u64, p: u64, rm: u64, rs: u64, rd: u64, rn: u64) 
 /// 7:4 of the multiplies and the exclusives.
 const LOW: u64 = 0b1001;
 
-/// The places of the registers at 3:0, 11:8, 15:12 and 19:16: the result is the first operand, and the first two in the long ones.
-const SHORT: [usize; 4] = [1, 2, 3, 0];
+/// The place of the register at 3:0; those at 11:8, 15:12 and 19:16 stand at the places after it, and after the fourth is the first. So the result is
+/// the first operand, and the first two in the long ones.
+const SHORT: usize = 1;
 
-const LONG: [usize; 4] = [2, 3, 0, 1];
+const LONG: usize = 2;
 
-/// A product, by the places of its registers.
-fn placed(i: Insn, low: u64, op: u64, p: u64, places: [usize; 4]) -> u32
-    requires { (get_or places 0 0 < PLACES) × (get_or places 1 0 < PLACES) × (get_or places 2 0 < PLACES) × (get_or places 3 0 < PLACES) }
-    ensures { let reg : ℕ → ℕ = λ n. (P.at i (get_or places n 0)).reg in result ≡ W.laid i low op p (reg 0) (reg 1) (reg 2) (reg 3) % 2 ^ 32 }
+/// A product, by the place of its register at 3:0. That is a constant, so that all four are.
+fn placed<const RM: usize>(i: Insn, low: u64, op: u64, p: u64) -> u32
+    requires { RM < 4 }
+    ensures { let reg : ℕ → ℕ = λ n. (P.at i ((RM + n) % 4)).reg in result ≡ W.laid i low op p (reg 0) (reg 1) (reg 2) (reg 3) % 2 ^ 32 }
 {
     laid(
         i,
         low,
         op,
         p,
-        register_at(i, places[0]),
-        register_at(i, places[1]),
-        register_at(i, places[2]),
-        register_at(i, places[3]),
+        register_at(i, RM),
+        register_at(i, (RM + 1) % 4),
+        register_at(i, (RM + 2) % 4),
+        register_at(i, (RM + 3) % 4),
     )
 }
 
@@ -57,9 +57,9 @@ fn multiplied(i: Insn, op: u64) -> u32
     ensures { result ≡ W.multiplied i op % 2 ^ 32 }
 {
     if is_long(op) {
-        placed(i, LOW, op, 0, LONG)
+        placed::<LONG>(i, LOW, op, 0)
     } else {
-        placed(i, LOW, op, 0, SHORT)
+        placed::<SHORT>(i, LOW, op, 0)
     }
 }
 
@@ -82,9 +82,9 @@ fn halved(i: Insn, n: u64) -> u32
 {
     let op = n / 4;
     if op == 0b10 {
-        placed(i, halves(n), op * 2, 1, LONG)
+        placed::<LONG>(i, halves(n), op * 2, 1)
     } else {
-        placed(i, halves(n), op * 2, 1, SHORT)
+        placed::<SHORT>(i, halves(n), op * 2, 1)
     }
 }
 

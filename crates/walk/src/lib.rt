@@ -237,18 +237,6 @@ fn put_here(
     }
 }
 
-/// How many numbers they have.
-fn here_len(reached: &[u32; 128], section: &Section<'_>, place: usize) -> usize
-    requires { place < (opening_of section.now).count }
-    ensures { result ≡ length (records_here section.now (marks_of reached.now) place) }
-{
-    if get(reached, place) {
-        marked_len(section, place)
-    } else {
-        0
-    }
-}
-
 /// The report, place by place.
 fn put_report(out: &mut [u32], reached: &[u32; 128], section: &Section<'_>) -> usize
     requires { Room out.old 0 (report_of section.now (marks_of reached.now)) }
@@ -269,9 +257,11 @@ fn report_len(reached: &[u32; 128], section: &Section<'_>) -> usize
 {
     let n = section.opened().count as usize;
     let mut len = 0;
-    // By place, by which the marks are kept.
+    // By place, by which the marks are kept. A place without one is left out: where a function gave 0 for it, each took a jump more.
     for place in 0..n {
-        len += here_len(reached, section, place);
+        if get(reached, place) {
+            len += marked_len(section, place);
+        }
     }
     len
 }
